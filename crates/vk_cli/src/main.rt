@@ -1,0 +1,6 @@
+//! The vfabi program.
+#![tactic(auto)]
+
+mod machine;
+
+fn main() {}
