@@ -1,0 +1,5 @@
+pub mod Digits
+pub mod Factors
+pub mod Chains
+pub mod Signs
+pub mod Parameters
