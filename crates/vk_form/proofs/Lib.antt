@@ -3,3 +3,4 @@ pub mod Factors
 pub mod Chains
 pub mod Signs
 pub mod Parameters
+pub mod Numbers

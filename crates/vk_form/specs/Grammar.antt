@@ -31,6 +31,12 @@ factor_count (number n) = 1
 factor_count (letter c) = 1
 factor_count (binary op l r) = factor_count l + factor_count r
 
+-- each number in the tree is at most 2^31 - 1
+abbrev pub NumbersAreSmall : Tree → Type 0
+NumbersAreSmall (number n) = n ≤ 2147483647
+NumbersAreSmall (letter c) = Unit {0}
+NumbersAreSmall (binary op l r) = NumbersAreSmall l × NumbersAreSmall r
+
 -- each name in the tree is one of these
 abbrev pub NamesAreAmong : List ℕ → Tree → Type 0
 NamesAreAmong names (number n) = Unit {0}

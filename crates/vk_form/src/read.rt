@@ -3,7 +3,7 @@
 ghost use Rattle.std.specs.Prelude.{◌≡◌, ◌↔◌, ◌∷◌, List, ℕ, IsTrue, IfOk, Contains};
 ghost use Rattle.std.specs.Result.{IsErrOf};
 ghost use Rattle.vk_form.specs.Form.{SmallUnit, tree_of, unit_of};
-ghost use Rattle.vk_form.specs.Grammar.{AllDiffer, IsText, NamesAreAmong};
+ghost use Rattle.vk_form.specs.Grammar.{AllDiffer, IsText, NamesAreAmong, NumbersAreSmall};
 
 use crate::reader::Reader;
 use crate::tree::{Expr, Form, FormFail};
@@ -23,9 +23,11 @@ use std::alloc::Global;
 /// # Errors
 ///
 /// `NotForm` if the bytes are no such text, and `Memory` if an allocation fails.
+#[tactic(auto, using(crate::proofs::Numbers::expression_numbers))]
 pub fn read_form(alloc: Global, bytes: &[u8]) -> Result<Form, FormFail>
     ensures found { IfOk result (λ form. IsText (unit_of form) bytes.now) }
     ensures only { IfOk result (λ form. (u : SmallUnit) → IsText u bytes.now → unit_of form ≡ u) }
+    ensures numbers { IfOk result (λ form. NumbersAreSmall (tree_of form.result)) }
     ensures none { IsErrOf result FormFail.NotForm → (u : SmallUnit) → IsText u bytes.now → ⊥ }
 {
     let mut reader = Reader::new(bytes);

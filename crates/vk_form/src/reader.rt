@@ -17,7 +17,7 @@ const MOST_PARAMETERS: usize = 8;
 
 const MOST_FACTORS: usize = 32;
 
-const MOST_NUMBER: u32 = 2147483647;
+const MOST_NUMBER: u32 = 2_147_483_647;
 
 // What is left to read, and how many factors may still come.
 #[derive(Drop)]
@@ -100,6 +100,7 @@ impl<'a> Reader<'a> {
         Ok(number)
     }
 
+    // A letter or a number.
     fn factor(&mut self) -> Result<Expr, FormFail>
         ensures found { IfOk result (λ e. Reads IsFactor (tree_of e) self.old.rest.now self.new.rest.now) }
         ensures factors { IfOk result (λ e. self.new.factors_left + factor_count (tree_of e) ≡ self.old.factors_left) }
@@ -117,6 +118,7 @@ impl<'a> Reader<'a> {
         }
     }
 
+    // Factors with ` * ` between them, multiplied from the left.
     fn term(&mut self, alloc: Global) -> Result<Expr, FormFail>
         ensures found { IfOk result (λ e. Reads IsTerm (tree_of e) self.old.rest.now self.new.rest.now) }
         ensures factors { IfOk result (λ e. self.new.factors_left + factor_count (tree_of e) ≡ self.old.factors_left) }
@@ -147,7 +149,8 @@ impl<'a> Reader<'a> {
         }
     }
 
-    pub(crate) fn expression(&mut self, alloc: Global) -> Result<Expr, FormFail>
+    // Terms with ` + ` or ` - ` between them, joined from the left.
+    fn expression(&mut self, alloc: Global) -> Result<Expr, FormFail>
         ensures found { IfOk result (λ e. Reads IsExpression (tree_of e) self.old.rest.now self.new.rest.now) }
         ensures factors { IfOk result (λ e. self.new.factors_left + factor_count (tree_of e) ≡ self.old.factors_left) }
         ensures again { ReadsEach IsExpression StopsExpression result self.old.factors_left self.old.rest.now self.new.rest.now }
@@ -160,6 +163,7 @@ impl<'a> Reader<'a> {
         Ok(sum)
     }
 
+    // One to eight parameters, each with its type, with commas between them.
     fn parameters(&mut self, alloc: Global) -> Result<Vec<u8>, FormFail>
         ensures found { IfOk result (λ v. self.old.rest.now ≡ parameters_text v.items ++ self.new.rest.now) }
         ensures letters { IfOk result (λ v. All IsLetter v.items) }

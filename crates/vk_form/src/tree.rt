@@ -6,33 +6,40 @@ ghost use Rattle.vk_form.specs.declared.tree.FormFail.TheVariants.{Memory as Mem
 use std::alloc::{AllocError, AllocFailed};
 
 /// An operator between two `int` operands.
-#[derive(Clone, Copy, PartialEq, Eq, Drop)]
+#[derive(Clone, Copy, PartialEq, Eq, Debug)]
 pub enum Operator {
     Add,
     Sub,
     Mul,
 }
 
-/// An expression: a number below 2^31, a parameter by its letter, or an operator with its left and right operand.
+/// An expression.
 #[derive(Drop)]
 pub enum Expr {
+    /// A number of at most 2147483647.
     Number(u32),
+    /// A parameter, by its letter from `b'a'` to `b'z'`.
     Name(u8),
+    /// An operator with its left and its right operand.
     Binary(Operator, Box<Expr>, Box<Expr>),
 }
 
-/// A function over `int`: its name and parameters as letters from `b'a'` to `b'z'`, and what it returns.
+/// A function over `int`, for which a vector variant is wanted. Its name and its parameters are letters from `b'a'`
+/// to `b'z'`.
 #[derive(Drop)]
 pub struct Form {
     pub name: u8,
     pub parameters: Vec<u8>,
+    /// What the function returns.
     pub result: Expr,
 }
 
-/// Why no function was read: the bytes are no text of one, or memory ran out.
-#[derive(Clone, Copy, PartialEq, Eq, Debug, Drop)]
+/// Why no function was read.
+#[derive(Clone, Copy, PartialEq, Eq, Debug)]
 pub enum FormFail {
+    /// The bytes are no text of such a function.
     NotForm,
+    /// An allocation failed.
     Memory,
 }
 
