@@ -7,3 +7,6 @@ mod tree;
 
 pub use read::read_form;
 pub use tree::{Expr, Form, FormFail, Operator};
+
+#[cfg(test)]
+mod tests;
