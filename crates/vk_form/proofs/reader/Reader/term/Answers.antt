@@ -1,0 +1,47 @@
+use Rattle.std.proofs.Common.{◌≡◌, codes, refl, ap, ◌∙◌, arith, rules}
+use Rattle.vk_form.specs.declared.tree.Operator.TheVariants.{Mul}
+use Rattle.vk_form.specs.declared.tree.FormFail.TheVariants.{Memory}
+use Rattle.vk_form.specs.Form.{tree_of}
+use Rattle.vk_form.specs.Grammar.{IsFactor, a_factor, factor_count}
+use Rattle.vk_form.specs.Reading.{IsProductSign}
+use Rattle.vk_form.proofs.Chains.{left_none, first_read, first_fails, next_read, next_fails}
+use Rattle.vk_form.proofs.Signs.{factors_level, no_product_here, term_first, more_product}
+use Rattle.vk_form.proofs.reader.Reader.term.Goals as goal
+
+pub returns-in_err-product-clause-again : goal.returns-in_err-product-clause-again
+returns-in_err-product-clause-again c =
+    λ e text tail spelled stop few is.
+    let memory : c.in_err-product.field-0.0 ≡ Memory = first_fails factors_level c.in_err-product.field-0.0 c.args.self.now.factors_left e c.args.self.now.rest.now c.factor.new.self.rest.now tail c.in_err-product.ensures.again (term_first e text c.args.self.now.rest.now tail spelled is) stop few in
+    search rules
+
+pub factors-init : goal.factors-init
+factors-init c = record {
+  found = let read = c.in_ok-product.ensures.found in record { text = read.text; parts = read.parts; spelled = a_factor _ _ read.spelled };
+  count = search rules;
+  some = omega (arith, c.in_ok-product.ensures.one);
+  again = λ e text tail spelled stop few is.
+      first_read factors_level c.in_ok-product.product _ e _ _ tail c.in_ok-product.ensures.again (term_first e text c.args.self.now.rest.now tail spelled is) stop few;
+}
+
+pub returns-in_err-right-clause-again : goal.returns-in_err-right-clause-again
+returns-in_err-right-clause-again c =
+    λ e text tail spelled stop few is.
+    let more = c.factors.invariant.again e text tail spelled stop few is in
+    let memory : c.in_err-right.field-0.0 ≡ Memory = next_fails factors_level Mul (codes " * ") (tree_of c.factors.product) c.in_err-right.field-0.0 c.takes.new.self.factors_left c.args.self.now.factors_left e c.factors.self.rest.now c.takes.new.self.rest.now c.factor-in-factors.new.self.rest.now tail c.in_err-right.ensures.again more refl (c.factors-test.ensures.found refl) stop few (omega (arith, c.factors-test.ensures.factors, c.factors.invariant.count)) in
+    search rules
+
+pub factors-preserved : goal.factors-preserved
+factors-preserved c = record {
+  found = more_product (tree_of c.factors.product) (tree_of c.in_ok-right.right) _ _ c.factors.self.rest.now c.takes.new.self.rest.now _ c.factors.invariant.found (c.factors-test.ensures.found refl) c.in_ok-right.ensures.found c.in_ok-product-2.ensures;
+  count = omega (arith, ap factor_count c.in_ok-product-2.ensures, c.factors.invariant.count, c.factors-test.ensures.factors, c.in_ok-right.ensures.factors);
+  some = omega (arith, ap factor_count c.in_ok-product-2.ensures, c.factors.invariant.some);
+  again = λ e text tail spelled stop few is.
+      next_read factors_level Mul (codes " * ") (tree_of c.factors.product) (tree_of c.in_ok-product-2.product) c.in_ok-right.right c.takes.new.self.factors_left c.args.self.now.factors_left e c.factors.self.rest.now c.takes.new.self.rest.now c.factor-in-factors.new.self.rest.now tail c.in_ok-right.ensures.again (c.factors.invariant.again e text tail spelled stop few is) refl (c.factors-test.ensures.found refl) c.in_ok-product-2.ensures stop few (omega (arith, c.factors-test.ensures.factors, c.factors.invariant.count));
+}
+
+pub returns-clause-again : goal.returns-clause-again
+returns-clause-again c =
+    λ e text tail spelled stop few is.
+    let none = no_product_here c.factors.self.rest.now (λ after here. let h = c.factors-test.ensures.again after here in absurd cc) in
+    let done = left_none IsFactor IsProductSign (tree_of c.factors.product) e c.factors.self.rest.now tail none (c.factors.invariant.again e text tail spelled stop few is) in
+    (done.0, c.factors-test.ensures.same refl ∙ done.1)
