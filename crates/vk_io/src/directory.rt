@@ -1,11 +1,12 @@
 //! The files of the system as a store.
-ghost use Rattle.std.specs.Prelude.{◌≡◌, ℕ, ◌≤◌, List, false, None, IfOk, length};
-ghost use Rattle.vk_io.specs.Tally.{count_of};
+ghost use Rattle.std.specs.Prelude.{◌≡◌, ℕ, ◌≤◌, List, false, None, IsTrue, IfOk, OnOk, length};
+ghost use Rattle.vk_io.specs.Counts.{SameCounts};
+ghost use Rattle.vk_io.specs.Tally.{count_of, has_place};
 
 use crate::outside::Outside;
 use crate::store::Store;
 use crate::tally::Tally;
-use std::alloc::Global;
+use std::alloc::{AllocError, Global};
 use std::fs::{File, OpenOptions};
 use std::io;
 use std::io::{Read, Seek, SeekFrom, Write};
@@ -61,6 +62,17 @@ impl<R: Files + Drop> DirStore<R> {
             writes: Tally::new(alloc),
         }
     }
+
+    /// Makes the places of both counts of `name`.
+    fn make_places(&mut self, name: &str) -> Result<(), AllocError>
+        ensures reads { OnOk result (IsTrue (has_place self.new.reads name.now)) }
+        ensures writes { OnOk result (IsTrue (has_place self.new.writes name.now)) }
+        ensures same_reads { SameCounts (count_of self.old.reads) (count_of self.new.reads) }
+        ensures same_writes { SameCounts (count_of self.old.writes) (count_of self.new.writes) }
+    {
+        self.reads.place(self.alloc, name)?;
+        self.writes.place(self.alloc, name)
+    }
 }
 
 impl<R: Files + Drop> Store for DirStore<R> {
@@ -73,7 +85,7 @@ impl<R: Files + Drop> Store for DirStore<R> {
     ghost writes = { λ store q. count_of store.writes q };
 
     fn fill(&mut self, name: &str, at: u64, into: &mut [u8]) -> Result<usize, Outside> {
-        self.reads.place(self.alloc, name)?;
+        self.make_places(name)?;
         match read_at(&self.files, name, at, into) {
             Ok(count) => Ok(count),
             Err(_) => {
@@ -84,7 +96,7 @@ impl<R: Files + Drop> Store for DirStore<R> {
     }
 
     fn start(&mut self, name: &str) -> Result<(), Outside> {
-        self.writes.place(self.alloc, name)?;
+        self.make_places(name)?;
         if create_empty(&self.files, name).is_err() {
             self.writes.raise(name);
             return Err(Outside::Failed);
@@ -93,7 +105,7 @@ impl<R: Files + Drop> Store for DirStore<R> {
     }
 
     fn append(&mut self, name: &str, bytes: &[u8]) -> Result<(), Outside> {
-        self.writes.place(self.alloc, name)?;
+        self.make_places(name)?;
         if write_at_end(&self.files, name, bytes).is_err() {
             self.writes.raise(name);
             return Err(Outside::Failed);

@@ -2,6 +2,7 @@
 ghost use Rattle.std.specs.Prelude.{◌≡◌, ℕ, ◌++◌, ◌≤◌, [], true, false, IsErr, IsErrOf, IfOk, OnOk, OnErr};
 ghost use Rattle.vk_io.specs.Counts.{Rose, next_count};
 ghost use Rattle.vk_io.specs.Schedule.{IsListed};
+ghost use Rattle.vk_io.specs.Sink.{Puts};
 
 use crate::outside::{Memory, Outside};
 use crate::schedule::Schedule;
@@ -43,13 +44,34 @@ impl MemSink {
         &self.bytes
     }
 
-    fn put_piece(&mut self, piece: &[u8]) -> Result<(), Outside>
-        ensures ok { OnOk result (sink_bytes self.new ≡ sink_bytes self.old ++ piece.now) }
+    /// A sink in memory tells its bytes and is not lean, and its trait's words are these.
+    pub fn tells_its_bytes(sink: &MemSink)
+        ensures tells { ⟦<MemSink as Sink>⟧.tells sink.now ≡ true }
+        ensures bytes { ⟦<MemSink as Sink>⟧.bytes sink.now ≡ sink_bytes sink.now }
+        ensures faults { ⟦<MemSink as Sink>⟧.faults sink.now ≡ faults_of sink.now }
+        ensures lean { ⟦<MemSink as Sink>⟧.is_lean sink.now ≡ false }
+    {}
+}
+
+impl Sink for MemSink {
+    ghost use Rattle.vk_io.specs.MemSink.{sink_bytes, faults_of, failing_of, calls_of};
+
+    ghost tells = { λ _. true };
+
+    ghost bytes = { λ sink. sink.bytes.items };
+
+    ghost faults = { λ sink. sink.faults };
+
+    ghost is_lean = { λ _. false };
+
+    fn put(&mut self, piece: &[u8]) -> Result<(), Outside>
+        ensures put { Puts (sink_bytes self.old) (sink_bytes self.new) result piece.now }
         ensures err { OnErr result (sink_bytes self.new ≡ sink_bytes self.old) }
 
         ensures failed { IsErrOf result Outside.Failed → Rose (faults_of self.old) (faults_of self.new) }
         ensures later { faults_of self.old ≤ faults_of self.new }
 
+        // It fails exactly at the listed calls.
         ensures listed { IsListed (failing_of self.old) (calls_of self.old) → IsErrOf result Outside.Failed }
         ensures unlisted { IsErrOf result Outside.Failed → IsListed (failing_of self.old) (calls_of self.old) }
         ensures failing { failing_of self.new ≡ failing_of self.old }
@@ -61,27 +83,5 @@ impl MemSink {
         }
         self.bytes.extend_from_slice(piece)?;
         Ok(())
-    }
-
-    /// A sink in memory tells its bytes and is not lean, and its trait's words are these.
-    pub fn tells_its_bytes(sink: &MemSink)
-        ensures tells { ⟦<MemSink as Sink>⟧.tells sink.now ≡ true }
-        ensures bytes { ⟦<MemSink as Sink>⟧.bytes sink.now ≡ sink_bytes sink.now }
-        ensures faults { ⟦<MemSink as Sink>⟧.faults sink.now ≡ faults_of sink.now }
-        ensures lean { ⟦<MemSink as Sink>⟧.is_lean sink.now ≡ false }
-    {}
-}
-
-impl Sink for MemSink {
-    ghost tells = { λ _. true };
-
-    ghost bytes = { λ sink. sink.bytes.items };
-
-    ghost faults = { λ sink. sink.faults };
-
-    ghost is_lean = { λ _. false };
-
-    fn put(&mut self, piece: &[u8]) -> Result<(), Outside> {
-        self.put_piece(piece)
     }
 }

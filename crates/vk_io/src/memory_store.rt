@@ -75,7 +75,27 @@ impl MemStore {
         Ok(())
     }
 
-    fn fill_file(&mut self, name: &str, at: u64, into: &mut [u8]) -> Result<usize, Outside>
+    /// A store in memory tells its files, and its trait's words are these.
+    pub fn tells_its_files(store: &MemStore)
+        ensures tells { ⟦<MemStore as Store>⟧.tells store.now ≡ true }
+        ensures file { (q : List ℕ) → ⟦<MemStore as Store>⟧.file store.now q ≡ stored store.now q }
+        ensures reads { (q : List ℕ) → ⟦<MemStore as Store>⟧.reads store.now q ≡ reads_of store.now q }
+        ensures writes { (q : List ℕ) → ⟦<MemStore as Store>⟧.writes store.now q ≡ writes_of store.now q }
+    {}
+}
+
+impl Store for MemStore {
+    ghost use Rattle.vk_io.specs.MemStore.{stored, reads_of, writes_of, failing_of, calls_of};
+
+    ghost tells = { λ _. true };
+
+    ghost file = { λ store q. option_map (λ file. file.items) (get_by_text store.files q) };
+
+    ghost reads = { λ store q. count_of store.reads q };
+
+    ghost writes = { λ store q. count_of store.writes q };
+
+    fn fill(&mut self, name: &str, at: u64, into: &mut [u8]) -> Result<usize, Outside>
         ensures bound { IfOk result (λ n. n ≤ length into.new) }
         ensures bytes { Fills (stored self.old name.now) at result into.new }
         ensures same { SameFiles (stored self.old) (stored self.new) }
@@ -84,6 +104,7 @@ impl MemStore {
         ensures reads { CountsOf name.now (reads_of self.old) (reads_of self.new) }
         ensures writes { SameCounts (writes_of self.old) (writes_of self.new) }
 
+        // It fails where its number is listed, and changes no file where it fails.
         ensures listed { IsListed (failing_of self.old) (calls_of self.old) → IsErr result }
         ensures unlisted { IsErrOf result Outside.Failed →
             IsListed (failing_of self.old) (calls_of self.old) ⊎ IsNone (stored self.old name.now) }
@@ -101,7 +122,7 @@ impl MemStore {
         }
     }
 
-    fn start_file(&mut self, name: &str) -> Result<(), Outside>
+    fn start(&mut self, name: &str) -> Result<(), Outside>
         ensures started { Starts (stored self.old name.now) (stored self.new name.now) result }
         ensures others { OtherFilesStay name.now (stored self.old) (stored self.new) }
 
@@ -109,6 +130,7 @@ impl MemStore {
         ensures writes { CountsOf name.now (writes_of self.old) (writes_of self.new) }
         ensures reads { SameCounts (reads_of self.old) (reads_of self.new) }
 
+        // It fails where its number is listed, and changes no file where it fails.
         ensures listed { IsListed (failing_of self.old) (calls_of self.old) → IsErr result }
         ensures unlisted { IsErrOf result Outside.Failed → IsListed (failing_of self.old) (calls_of self.old) }
         ensures same { OnErr result (SameFiles (stored self.old) (stored self.new)) }
@@ -125,7 +147,7 @@ impl MemStore {
         Ok(())
     }
 
-    fn append_file(&mut self, name: &str, bytes: &[u8]) -> Result<(), Outside>
+    fn append(&mut self, name: &str, bytes: &[u8]) -> Result<(), Outside>
         ensures appended { AppendsTo (stored self.old name.now) (stored self.new name.now) result bytes.now }
         ensures others { OtherFilesStay name.now (stored self.old) (stored self.new) }
 
@@ -133,6 +155,7 @@ impl MemStore {
         ensures writes { CountsOf name.now (writes_of self.old) (writes_of self.new) }
         ensures reads { SameCounts (reads_of self.old) (reads_of self.new) }
 
+        // It fails where its number is listed, and changes no file where it fails.
         ensures listed { IsListed (failing_of self.old) (calls_of self.old) → IsErr result }
         ensures unlisted { IsErrOf result Outside.Failed → IsListed (failing_of self.old) (calls_of self.old) }
         ensures same { OnErr result (SameFiles (stored self.old) (stored self.new)) }
@@ -150,35 +173,5 @@ impl MemStore {
             None => self.set(name, bytes)?,
         }
         Ok(())
-    }
-
-    /// A store in memory tells its files, and its trait's words are these.
-    pub fn tells_its_files(store: &MemStore)
-        ensures tells { ⟦<MemStore as Store>⟧.tells store.now ≡ true }
-        ensures file { (q : List ℕ) → ⟦<MemStore as Store>⟧.file store.now q ≡ stored store.now q }
-        ensures reads { (q : List ℕ) → ⟦<MemStore as Store>⟧.reads store.now q ≡ reads_of store.now q }
-        ensures writes { (q : List ℕ) → ⟦<MemStore as Store>⟧.writes store.now q ≡ writes_of store.now q }
-    {}
-}
-
-impl Store for MemStore {
-    ghost tells = { λ _. true };
-
-    ghost file = { λ store q. option_map (λ file. file.items) (get_by_text store.files q) };
-
-    ghost reads = { λ store q. count_of store.reads q };
-
-    ghost writes = { λ store q. count_of store.writes q };
-
-    fn fill(&mut self, name: &str, at: u64, into: &mut [u8]) -> Result<usize, Outside> {
-        self.fill_file(name, at, into)
-    }
-
-    fn start(&mut self, name: &str) -> Result<(), Outside> {
-        self.start_file(name)
-    }
-
-    fn append(&mut self, name: &str, bytes: &[u8]) -> Result<(), Outside> {
-        self.append_file(name, bytes)
     }
 }

@@ -2,7 +2,7 @@ use Rattle.std.proofs.Common.{arith, ◌≡◌, ℕ, List}
 use Rattle.std.proofs.lemmas.Map.Text.{text_keys}
 use Rattle.std.specs.Prelude.{Result, Ok, Err, OnErr}
 use Rattle.vk_io.specs.MemStore.{stored}
-use Rattle.vk_io.proofs.memory_store.MemStore.append_file.Goals as goal
+use Rattle.vk_io.proofs.memory_store.MemStoreStore.append.Goals as goal
 
 -- what holds anyway holds where the result is an error
 on_err : {T E : Type 0} (r : Result T E) (P : Type 0) → P → OnErr r P
