@@ -27,3 +27,6 @@ pub use store::Store;
 pub use stream::StreamSink;
 pub use whole::{WholeFail, read_whole};
 pub use words::Words;
+
+#[cfg(test)]
+mod tests;
