@@ -1,0 +1,3 @@
+pub mod Grown
+mod Sofar
+mod Fronts

@@ -1,0 +1,115 @@
+//! The files of the system as a store.
+ghost use Rattle.std.specs.Prelude.{◌≡◌, ℕ, ◌≤◌, List, false, None, IsTrue, IfOk, OnOk, length};
+ghost use Rattle.vk_io.specs.Counts.{SameCounts};
+ghost use Rattle.vk_io.specs.Tally.{count_of, has_place};
+
+use crate::outside::Outside;
+use crate::store::Store;
+use crate::tally::Tally;
+use std::alloc::{AllocError, Global};
+use std::fs::{File, OpenOptions};
+use std::io;
+use std::io::{Read, Seek, SeekFrom, Write};
+use std::rt::Files;
+
+/// A store over the system's files. A name is a path, from the folder in which the process runs
+/// unless it is absolute.
+///
+/// The store tells no contents. It keeps two counts for each name that it was given, and makes
+/// their place before it touches a file.
+#[derive(Drop)]
+pub struct DirStore<R: Files + Drop> {
+    alloc: Global,
+    files: R,
+    reads: Tally,
+    writes: Tally,
+}
+
+/// Reads once at the offset `at`, and answers how many bytes came.
+fn read_at<R: Files>(files: &R, name: &str, at: u64, into: &mut [u8]) -> io::Result<usize>
+    ensures { IfOk result (λ n. n ≤ length into.new) }
+{
+    let mut file = File::open(files, name)?;
+    file.seek(SeekFrom::Start(at))?;
+    file.read(into)
+}
+
+/// Makes an empty file, in place of one that is there.
+fn create_empty<R: Files>(files: &R, name: &str) -> io::Result<()> {
+    File::create(files, name)?;
+    Ok(())
+}
+
+/// Writes all of the bytes at the end of a file, which it makes where there is none.
+fn write_at_end<R: Files>(files: &R, name: &str, bytes: &[u8]) -> io::Result<()> {
+    let mut file = OpenOptions::new()
+        .append(true)
+        .create(true)
+        .open(files, name)?;
+    file.write_all(bytes)
+}
+
+impl<R: Files + Drop> DirStore<R> {
+    /// A store over the files that the runtime gives.
+    pub fn new(alloc: Global, files: R) -> DirStore<R>
+        ensures reads { (q : List ℕ) → ⟦<DirStore<R> as Store>⟧.reads result q ≡ 0 }
+        ensures writes { (q : List ℕ) → ⟦<DirStore<R> as Store>⟧.writes result q ≡ 0 }
+    {
+        DirStore {
+            alloc,
+            files,
+            reads: Tally::new(alloc),
+            writes: Tally::new(alloc),
+        }
+    }
+
+    /// Makes the places of both counts of `name`.
+    fn make_places(&mut self, name: &str) -> Result<(), AllocError>
+        ensures reads { OnOk result (IsTrue (has_place self.new.reads name.now)) }
+        ensures writes { OnOk result (IsTrue (has_place self.new.writes name.now)) }
+        ensures same_reads { SameCounts (count_of self.old.reads) (count_of self.new.reads) }
+        ensures same_writes { SameCounts (count_of self.old.writes) (count_of self.new.writes) }
+    {
+        self.reads.place(self.alloc, name)?;
+        self.writes.place(self.alloc, name)
+    }
+}
+
+impl<R: Files + Drop> Store for DirStore<R> {
+    ghost tells = { λ _. false };
+
+    ghost file = { λ _ _. None };
+
+    ghost reads = { λ store q. count_of store.reads q };
+
+    ghost writes = { λ store q. count_of store.writes q };
+
+    fn fill(&mut self, name: &str, at: u64, into: &mut [u8]) -> Result<usize, Outside> {
+        self.make_places(name)?;
+        match read_at(&self.files, name, at, into) {
+            Ok(count) => Ok(count),
+            Err(_) => {
+                self.reads.raise(name);
+                Err(Outside::Failed)
+            }
+        }
+    }
+
+    fn start(&mut self, name: &str) -> Result<(), Outside> {
+        self.make_places(name)?;
+        if create_empty(&self.files, name).is_err() {
+            self.writes.raise(name);
+            return Err(Outside::Failed);
+        }
+        Ok(())
+    }
+
+    fn append(&mut self, name: &str, bytes: &[u8]) -> Result<(), Outside> {
+        self.make_places(name)?;
+        if write_at_end(&self.files, name, bytes).is_err() {
+            self.writes.raise(name);
+            return Err(Outside::Failed);
+        }
+        Ok(())
+    }
+}

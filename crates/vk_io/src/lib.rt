@@ -1,0 +1,32 @@
+//! What a program reads and writes: stores of files by name, sinks of bytes, and lists of words.
+//!
+//! Code that is generic over `Store` and `Sink` runs on the system's files and streams, and on
+//! memory, where its contracts can name each byte.
+#![tactic(auto)]
+
+mod directory;
+mod lines;
+mod memory_sink;
+mod memory_store;
+mod outside;
+mod schedule;
+mod sink;
+mod store;
+mod stream;
+mod tally;
+mod whole;
+mod words;
+
+pub use directory::DirStore;
+pub use lines::put_lines;
+pub use memory_sink::MemSink;
+pub use memory_store::MemStore;
+pub use outside::{Memory, Outside};
+pub use sink::Sink;
+pub use store::Store;
+pub use stream::StreamSink;
+pub use whole::{WholeFail, read_whole};
+pub use words::Words;
+
+#[cfg(test)]
+mod tests;

@@ -1,0 +1,113 @@
+//! Reading a whole file.
+ghost use Rattle.std.specs.Prelude.{◌≡◌, ℕ, ◌+◌, ◌-◌, ◌<◌, ◌≤◌, IsTrue, IsErrOf, IfOk, OnOk, Some, length, vec_len};
+ghost use Rattle.vk_io.specs.Counts.{Rose, CountsOf, SameCounts};
+ghost use Rattle.vk_io.specs.Store.{SameFiles};
+ghost use Rattle.vk_io.specs.Whole.{whole_of, IsFront, IsTooLong};
+
+use crate::outside::Outside;
+use crate::store::Store;
+use std::alloc::{AllocError, AllocFailed, Global};
+
+/// How many bytes a call of the store is asked for at most.
+const PIECE: usize = 65536;
+
+/// Why a whole file was not read.
+#[derive(Clone, Copy, Debug, PartialEq, Eq)]
+pub enum WholeFail {
+    /// The store failed.
+    Fault,
+    /// The file is longer than the limit.
+    Size,
+    /// There was no memory left.
+    Memory,
+}
+
+impl From<Outside> for WholeFail {
+    ghost from_gives = { λ outside e. e ≡ whole_of outside };
+
+    fn from(outside: Outside) -> WholeFail {
+        match outside {
+            Outside::Failed => WholeFail::Fault,
+            Outside::Memory => WholeFail::Memory,
+        }
+    }
+}
+
+impl From<AllocError> for WholeFail {
+    ghost use Rattle.vk_io.specs.declared.whole.WholeFail.{WholeFail};
+
+    ghost from_gives = { λ _ e. e ≡ WholeFail.Memory };
+
+    fn from(_error: AllocError) -> WholeFail {
+        WholeFail::Memory
+    }
+}
+
+/// Reads one more piece of the file behind `all`, of at most `limit` bytes and one, and answers
+/// how many bytes came.
+fn read_more<S: Store>(
+    store: &mut S,
+    name: &str,
+    limit: u64,
+    piece: &mut [u8],
+    all: &mut Vec<u8>,
+) -> Result<usize, WholeFail>
+    requires room { vec_len all.old ≤ limit }
+    requires piece { 0 < length piece.old }
+    ensures more { IfOk result (λ n. vec_len all.new ≡ vec_len all.old + n) }
+    ensures within { vec_len all.new ≤ limit + 1 }
+    ensures front { IsTrue (S.tells store.old) → IsFront (S.file store.old name.now) all.old.items →
+        OnOk result (IsFront (S.file store.old name.now) all.new.items) }
+    ensures end { IsTrue (S.tells store.old) → IsFront (S.file store.old name.now) all.old.items →
+        IfOk result (λ n. n ≡ 0 → S.file store.old name.now ≡ Some all.new.items) }
+
+    ensures failed { IsErrOf result WholeFail.Fault → Rose (S.reads store.old name.now) (S.reads store.new name.now) }
+    ensures size { IsErrOf result WholeFail.Size → ⊥ }
+    ensures reads { CountsOf name.now (S.reads store.old) (S.reads store.new) }
+
+    ensures writes { SameCounts (S.writes store.old) (S.writes store.new) }
+    ensures tells { S.tells store.new ≡ S.tells store.old }
+    ensures same { SameFiles (S.file store.old) (S.file store.new) }
+{
+    let room = (limit - all.len() as u64)
+        .saturating_add(1)
+        .min(piece.len() as u64);
+    let part = &mut piece[..room as usize];
+    let count = store.fill(name, all.len() as u64, part)?;
+    all.extend_from_slice(&part[..count])?;
+    Ok(count)
+}
+
+/// Reads the whole file of a name, piece by piece.
+///
+/// It answers `Fault` where the store failed, and then the name's read count rose, `Size` where
+/// the file has more than `limit` bytes, and `Memory` for want of memory. It reads at most one
+/// byte past the limit.
+pub fn read_whole<S: Store>(
+    alloc: Global,
+    store: &mut S,
+    name: &str,
+    limit: u64,
+) -> Result<Vec<u8>, WholeFail>
+    ensures found { IsTrue (S.tells store.old) → IfOk result (λ bytes. S.file store.old name.now ≡ Some bytes.items) }
+    ensures size { IsTrue (S.tells store.old) → IsErrOf result WholeFail.Size → IsTooLong (S.file store.old name.now) limit }
+    ensures fits { IfOk result (λ bytes. length bytes.items ≤ limit) }
+
+    ensures failed { IsErrOf result WholeFail.Fault → Rose (S.reads store.old name.now) (S.reads store.new name.now) }
+    ensures reads { CountsOf name.now (S.reads store.old) (S.reads store.new) }
+
+    ensures writes { SameCounts (S.writes store.old) (S.writes store.new) }
+    ensures tells { S.tells store.new ≡ S.tells store.old }
+    ensures same { SameFiles (S.file store.old) (S.file store.new) }
+{
+    let mut piece = vec![in alloc; 0u8; PIECE]?;
+    let mut all = Vec::new(alloc);
+    loop {
+        if all.len() as u64 > limit {
+            return Err(WholeFail::Size);
+        }
+        if read_more(store, name, limit, &mut piece, &mut all)? == 0 {
+            return Ok(all);
+        }
+    }
+}
