@@ -1,12 +1,13 @@
 -- Frames kept as rows, seen lane by lane.
-use Rattle.std.proofs.Common.{◌≡◌, ℕ, ◌+◌, ◌-◌, ◌<◌, ◌≤◌, List, [], ◌∷◌, ◌++◌, length, get_or, cond, eqb, refl, ap, arith, Option, Some, None, map, replicate, take, sym, ◌∙◌, rules, true, false, Ok, Err, Result, ℤ, below_more, subst, inl, inr, zero, suc, drop, add-one, drop-cons}
+use Rattle.std.proofs.Common.{◌≡◌, ℕ, ◌+◌, ◌<◌, ◌≤◌, List, [], ◌∷◌, ◌++◌, length, get_or, cond, eqb, refl, ap, arith, None, replicate, sym, ◌∙◌, rules, Ok, Err, Result, ℤ, below_more, subst, inl, inr, zero, suc, drop, add-one, drop-cons}
 use Rattle.std.proofs.Math.ListN.{get_or-map, set}
-use Rattle.std.proofs.lemmas.List.{get_or-set_same, get_or-set_other, get_or_default}
+use Rattle.std.proofs.lemmas.List.{get_or-set_same, get_or-set_other, get_or_default, get_or_past}
 use Rattle.std.proofs.lemmas.Option.{slice_get_within}
-use Rattle.std.proofs.lemmas.Bool.{cases_eq}
+use Rattle.std.proofs.lemmas.Bool.{cases_eq, cases_lt}
 use Rattle.std.proofs.lemmas.Bool.Decides.{nat_tests}
 use Rattle.vk_types.specs.declared.types.Word.{Word}
 use Rattle.vk_types.specs.declared.types.Ty.{Ty}
+use Rattle.vk_types.specs.declared.types.Ty.TheVariants.{I8, I16, I32, I64, U8, U16, U32, U64}
 use Rattle.vk_types.specs.declared.types.Op2.{Op2}
 use Rattle.vk_types.specs.declared.types.Stop.{Stop}
 use Rattle.vk_types.specs.Numbers.{IsCanonical, number_of}
@@ -17,7 +18,7 @@ use Rattle.vk_code.specs.declared.instruction.Instr.{Instr}
 use Rattle.vk_code.specs.declared.instruction.Operation.TheVariants.{Binary}
 use Rattle.vk_code.specs.Code.{HasType, HasRightType, called_with, types_of, integer_of}
 use Rattle.vk_code.specs.Lane.{Lane, act, run, step, with_reg, with_result}
-use Rattle.vk_cli.specs.Machine.{word_at, column, lane_of, AreCanonical, IsWordOf}
+use Rattle.vk_cli.specs.Machine.{word_at, column, lane_of, AreCanonical, AreIntRows, IsWordOf}
 
 -- a row that was read is that of its register
 pub row_read : (rows : List (List Word)) (r : ℕ) (row : List Word) → row ≡ get_or rows r row → r < length rows → row ≡ get_or rows r []
@@ -137,3 +138,22 @@ pub run-drop : (types : ℕ → Ty) (is : List Instr) (n : ℕ) (d : Instr) (bef
     run types (drop (n + 1) is) after ≡ run types (drop n is) before
 run-drop types is n d before after h e =
     rw add-one (ap (run types (drop (suc n) is)) e ∙ sym (ap (λ (xs : List Instr). run types xs before) (drop-cons is n d h)))
+
+-- 0 is a number of every type
+canonical_zero : (t : Ty) → IsCanonical t 0
+canonical_zero I8 = search rules
+canonical_zero I16 = search rules
+canonical_zero I32 = search rules
+canonical_zero I64 = search rules
+canonical_zero U8 = search rules
+canonical_zero U16 = search rules
+canonical_zero U32 = search rules
+canonical_zero U64 = search rules
+
+-- rows of int words are canonical for registers of int
+pub AreCanonical-ints : (regs : List CType) (rows : List (List Word)) → length rows ≤ length regs → ((r : ℕ) → r < length regs → types_of regs r ≡ I32) →
+    AreIntRows rows → AreCanonical regs rows
+AreCanonical-ints regs rows few ints words r j h = elim (cases_lt r (length rows)) [
+  | inl inside ↦ rw (ints r (omega arith)) (words r inside j h)
+  | inr past ↦ rw (get_or_past rows r [] past) (canonical_zero (types_of regs r))
+]

@@ -1,6 +1,7 @@
 -- Rows of registers as lanes: a row has one word for each lane.
-use Rattle.std.specs.Prelude.{◌≡◌, ℕ, ◌==◌, ◌<◌, List, [], map, slice_index_or, Option, Some, None, Result, Ok, Err, ℤ, ⊤}
+use Rattle.std.specs.Prelude.{◌≡◌, ℕ, ◌==◌, ◌<◌, List, [], length, map, slice_index_or, Option, Some, None, Result, Ok, Err, ℤ, ⊤}
 use Rattle.std.specs.List.{AllByRecursion}
+use Rattle.vk_types.specs.declared.types.Ty.TheVariants.{I32}
 use Rattle.vk_types.specs.declared.types.Word.{Word}
 use Rattle.vk_types.specs.declared.types.Stop.{Stop}
 use Rattle.vk_types.specs.Numbers.{word_of, IsCanonical}
@@ -28,6 +29,13 @@ column rows j = map (λ row. word_at row j) rows
 -- each word of the four lanes is canonical for its register
 abbrev pub AreCanonical : List CType → List (List Word) → Type 0
 AreCanonical regs rows = (r j : ℕ) → j < 4 → IsCanonical (types_of regs r) (word_at (slice_index_or rows r []) j)
+
+-- each word of the four lanes is one of int
+abbrev pub IsIntRow : List Word → Type 0
+IsIntRow row = (j : ℕ) → j < 4 → IsCanonical I32 (word_at row j)
+
+abbrev pub AreIntRows : List (List Word) → Type 0
+AreIntRows rows = (r : ℕ) → r < length rows → IsIntRow (slice_index_or rows r [])
 
 -- the result is a number, and this its word
 abbrev pub IsWordOf : ℕ → Result ℤ Stop → Type 0

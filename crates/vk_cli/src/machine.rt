@@ -30,6 +30,7 @@ pub fn run(alloc: Global, code: &Code, args: &[Row]) -> Result<Vec<Row>, AllocEr
     ensures registers { IfOk result (λ rows. vec_len rows ≡ vec_len code.now.regs) }
     ensures lanes { IfOk result (λ rows. (j d : ℕ) → j < 4 →
         word_at (slice_index_or rows.items d []) j ≡ word_after code.now (column args.now j) d) }
+    ensures canonical { IfOk result (λ rows. AreCanonical code.now.regs.items rows.items) }
 {
     let mut rows = first_rows(alloc, args, code.regs.len())?;
     for instr in &code.instrs {

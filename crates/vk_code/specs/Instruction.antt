@@ -4,7 +4,7 @@ use Rattle.std.specs.Option.{option_and_then, option_map}
 use Rattle.vk_types.specs.declared.types.Ty.{Ty}
 use Rattle.vk_types.specs.declared.types.Ty.TheVariants.{I8, I16, I32, I64, U8, U16, U32, U64}
 use Rattle.vk_types.specs.declared.types.Op2.{Op2}
-use Rattle.vk_types.specs.declared.types.Op2.TheVariants.{Add, Sub, Mul, Div, Rem, And, Or, Xor, Shl, Shr}
+use Rattle.vk_types.specs.declared.types.Op2.TheVariants.{Add, Sub, Mul, Div, Rem, And, Or, Xor, Shl, Shr, Eq, Ne, Lt, Le}
 use Rattle.vk_code.specs.declared.instruction.Instr.{Instr}
 use Rattle.vk_code.specs.declared.instruction.Operation.{Operation}
 use Rattle.vk_code.specs.declared.instruction.Operation.TheVariants.{Const, Binary}
@@ -25,7 +25,11 @@ operator_numbered n = slice_get operators n
 
 -- the operator is one of them; comparisons are another instruction's
 abbrev pub IsArithmetic : Op2 → Type 0
-IsArithmetic op = (n : ℕ) × (operator_numbered n ≡ Some op)
+IsArithmetic Eq = ⊥
+IsArithmetic Ne = ⊥
+IsArithmetic Lt = ⊥
+IsArithmetic Le = ⊥
+IsArithmetic op = Unit {0}
 
 -- the fields of an immediate
 abbrev pub field_b : ℕ → ℕ

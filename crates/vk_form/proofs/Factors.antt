@@ -12,6 +12,7 @@ pub record LetterFactor (e : Tree) (xs tail : List ℕ) : Type 0 where
   pub tree : letter code ≡ e
   pub parts : xs ≡ code ∷ tail
 
-pub letter_factor : (e : Tree) (text tail xs : List ℕ) → IsFactor e text → xs ≡ text ++ tail → is_ascii_digit (slice_index xs 0) ≡ false → LetterFactor e xs tail
+pub letter_factor : (e : Tree) (text tail xs : List ℕ) → IsFactor e text → xs ≡ text ++ tail → is_ascii_digit (slice_index xs 0) ≡ false →
+    LetterFactor e xs tail
 letter_factor e text tail xs (a_letter c h) is no_digit = record { code = c; valid = h; tree = refl; parts = is }
 letter_factor e text tail xs (a_number n h) is no_digit = absurd (false≢true (sym no_digit ∙ decimal_first n xs tail h is))

@@ -4,3 +4,4 @@ pub mod Chains
 pub mod Signs
 pub mod Parameters
 pub mod Numbers
+pub mod Sizes

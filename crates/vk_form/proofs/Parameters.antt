@@ -26,12 +26,14 @@ more_push (x ∷ xs) p = ap (λ w. codes ", int " ++ (x ∷ w)) (more_push xs p)
 pub letters_push : (xs : List ℕ) (p : ℕ) → All IsLetter xs → IsLetter p → All IsLetter (xs ++ (p ∷ []))
 letters_push xs p all letter = All-push IsLetter xs p all letter
 
-pub text_push : (xs : List ℕ) (p : ℕ) (before here middle after : List ℕ) → 1 ≤ length xs → before ≡ parameters_text xs ++ here → here ≡ codes ", int " ++ middle → middle ≡ p ∷ after → before ≡ parameters_text (xs ++ (p ∷ [])) ++ after
+pub text_push : (xs : List ℕ) (p : ℕ) (before here middle after : List ℕ) → 1 ≤ length xs → before ≡ parameters_text xs ++ here →
+    here ≡ codes ", int " ++ middle → middle ≡ p ∷ after → before ≡ parameters_text (xs ++ (p ∷ [])) ++ after
 text_push [] p before here middle after some a b c = absurd (omega arith)
 text_push (x ∷ xs) p before here middle after some a b c =
     rw (a, b, c) (ap (λ w. codes "int " ++ (x ∷ w)) (sym (append_assoc (more_parameters xs) (codes ", int " ++ (p ∷ [])) after) ∙ ap (λ w. w ++ after) (sym (more_push xs p))))
 
-pub first_parameter : (ps before middle tail : List ℕ) → All IsLetter ps → 1 ≤ length ps → before ≡ parameters_text ps ++ tail → before ≡ codes "int " ++ middle → NextParameter [] ps middle tail
+pub first_parameter : (ps before middle tail : List ℕ) → All IsLetter ps → 1 ≤ length ps → before ≡ parameters_text ps ++ tail →
+    before ≡ codes "int " ++ middle → NextParameter [] ps middle tail
 first_parameter [] before middle tail letters some is sign = absurd (omega arith)
 first_parameter (p ∷ ps) before middle tail letters some is sign =
     record { next = p; more = ps; letter = letters 0 0 (omega arith); whole = refl; parts = ap (λ w. drop 4 w) (sym sign ∙ is) }
@@ -43,22 +45,31 @@ middle_letter xs p ys all letters e =
     let P : ℕ → Type 0 = λ c. IsLetter c in
     subst P at (letters (length xs) 0 inside)
 
-next_along : (so_far more all before middle tail : List ℕ) → All IsLetter all → slice_index tail 0 ≢ 44 → all ≡ so_far ++ more → before ≡ more_parameters more ++ tail → before ≡ codes ", int " ++ middle → NextParameter so_far all middle tail
+next_along : (so_far more all before middle tail : List ℕ) → All IsLetter all → slice_index tail 0 ≢ 44 → all ≡ so_far ++ more →
+    before ≡ more_parameters more ++ tail → before ≡ codes ", int " ++ middle → NextParameter so_far all middle tail
 next_along so_far [] all before middle tail letters stop a b sign = absurd (stop (ap (λ w. get_or w 0 0) (sym b ∙ sign)))
 next_along so_far (p ∷ ps) all before middle tail letters stop a b sign =
     record { next = p; more = ps; letter = middle_letter so_far p ps all letters a; whole = a; parts = ap (λ w. drop 6 w) (sym sign ∙ b) }
 
-pub next_parameter : (so_far all before middle tail : List ℕ) → All IsLetter all → slice_index tail 0 ≢ 44 → LeftParameters so_far all before tail → before ≡ codes ", int " ++ middle → NextParameter so_far all middle tail
+pub next_parameter : (so_far all before middle tail : List ℕ) → All IsLetter all → slice_index tail 0 ≢ 44 →
+    LeftParameters so_far all before tail → before ≡ codes ", int " ++ middle → NextParameter so_far all middle tail
 next_parameter so_far all before middle tail letters stop left sign =
     next_along so_far left.more all before middle tail letters stop left.whole left.parts sign
 
-pub left_after : (so_far all before after tail : List ℕ) (p : ℕ) (next : NextParameter so_far all before tail) → p ≡ next.next → after ≡ more_parameters next.more ++ tail → LeftParameters (so_far ++ (p ∷ [])) all after tail
+pub left_after : (so_far all before after tail : List ℕ) (p : ℕ) (next : NextParameter so_far all before tail) → p ≡ next.next →
+    after ≡ more_parameters next.more ++ tail → LeftParameters (so_far ++ (p ∷ [])) all after tail
 left_after so_far all before after tail p next same is =
-    record { more = next.more; whole = next.whole ∙ (sym (append_assoc so_far (next.next ∷ []) next.more) ∙ ap (λ q. (so_far ++ (q ∷ [])) ++ next.more) (sym same)); parts = is }
+    record {
+      more = next.more;
+      whole = next.whole ∙ (sym (append_assoc so_far (next.next ∷ []) next.more) ∙ ap (λ q. (so_far ++ (q ∷ [])) ++ next.more) (sym same));
+      parts = is;
+    }
 
-none_along : (so_far more all before tail : List ℕ) → ((after : List ℕ) → before ≡ codes ", int " ++ after → ⊥) → all ≡ so_far ++ more → before ≡ more_parameters more ++ tail → (so_far ≡ all) × (before ≡ tail)
+none_along : (so_far more all before tail : List ℕ) → ((after : List ℕ) → before ≡ codes ", int " ++ after → ⊥) → all ≡ so_far ++ more →
+    before ≡ more_parameters more ++ tail → (so_far ≡ all) × (before ≡ tail)
 none_along so_far [] all before tail none a b = (sym (a ∙ append-nil so_far), b)
 none_along so_far (p ∷ ps) all before tail none a b = absurd (none (p ∷ (more_parameters ps ++ tail)) b)
 
-pub no_parameter : (so_far all before tail : List ℕ) → ((after : List ℕ) → before ≡ codes ", int " ++ after → ⊥) → LeftParameters so_far all before tail → (so_far ≡ all) × (before ≡ tail)
+pub no_parameter : (so_far all before tail : List ℕ) → ((after : List ℕ) → before ≡ codes ", int " ++ after → ⊥) →
+    LeftParameters so_far all before tail → (so_far ≡ all) × (before ≡ tail)
 no_parameter so_far all before tail none left = none_along so_far left.more all before tail none left.whole left.parts

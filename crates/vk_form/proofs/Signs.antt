@@ -86,9 +86,19 @@ pub terms_level : IsLevel IsTerm IsSumSign StopsTerm StopsExpression
 terms_level = record { signs = sum_signs; no_sign = no_sum; stops = term_stops }
 
 -- one more sign and operand behind what is ahead
-add_ahead : (Operand : Tree → List ℕ → Type 0) (Sign : Operator → List ℕ → Type 0) (op : Operator) (sign : List ℕ) (l r : Tree) (y before tail : List ℕ) → Ahead Operand Sign (λ x. x) l before ((sign ++ y) ++ tail) → Sign op sign → Operand r y → Ahead Operand Sign (λ x. x) (binary op l r) before tail
+add_ahead :
+    (Operand : Tree → List ℕ → Type 0) (Sign : Operator → List ℕ → Type 0) (op : Operator) (sign : List ℕ) (l r : Tree) (y before tail : List ℕ) →
+    Ahead Operand Sign (λ x. x) l before ((sign ++ y) ++ tail) → Sign op sign → Operand r y →
+    Ahead Operand Sign (λ x. x) (binary op l r) before tail
 add_ahead Operand Sign op sign l r y before tail rest s o =
-    record { right = rest.right; text = rest.text; more = rest.more ++ (sign ++ y); operand = rest.operand; parts = rest.parts ∙ ap (λ w. rest.text ++ w) (sym (append_assoc rest.more (sign ++ y) tail)); chain = chain_add Operand Sign op sign rest.right l r rest.more y rest.chain s o }
+    record {
+      right = rest.right;
+      text = rest.text;
+      more = rest.more ++ (sign ++ y);
+      operand = rest.operand;
+      parts = rest.parts ∙ ap (λ w. rest.text ++ w) (sym (append_assoc rest.more (sign ++ y) tail));
+      chain = chain_add Operand Sign op sign rest.right l r rest.more y rest.chain s o;
+    }
 
 pub term_first : (e : Tree) (u before tail : List ℕ) → IsTerm e u → before ≡ u ++ tail → Ahead IsFactor IsProductSign (λ r. r) e before tail
 term_first e u before tail (a_factor _ _ f) is = record { right = e; text = u; more = []; operand = f; parts = is; chain = at_end e }
@@ -110,19 +120,32 @@ no_product_here xs none Mul sign after s e = none after (e ∙ ap (λ w. w ++ af
 no_product_here xs none Add sign after s e = s
 no_product_here xs none Sub sign after s e = s
 
-three_parts : (x sign y before here middle after : List ℕ) → before ≡ x ++ here → here ≡ sign ++ middle → middle ≡ y ++ after → before ≡ (x ++ (sign ++ y)) ++ after
+three_parts : (x sign y before here middle after : List ℕ) → before ≡ x ++ here → here ≡ sign ++ middle → middle ≡ y ++ after →
+    before ≡ (x ++ (sign ++ y)) ++ after
 three_parts x sign y before here middle after a b c = rw (a, b, c) (simp append_assoc)
 
-sum_spelled : (op : Operator) (sign : List ℕ) (l r : Tree) (x y : List ℕ) → IsSumSign op sign → IsExpression l x → IsTerm r y → IsExpression (binary op l r) (x ++ (sign ++ y))
+sum_spelled : (op : Operator) (sign : List ℕ) (l r : Tree) (x y : List ℕ) → IsSumSign op sign → IsExpression l x → IsTerm r y →
+    IsExpression (binary op l r) (x ++ (sign ++ y))
 sum_spelled Add sign l r x y s h t = subst (λ w. IsExpression (binary Add l r) (x ++ (w ++ y))) (sym s) (a_sum l r x y h t)
 sum_spelled Sub sign l r x y s h t = subst (λ w. IsExpression (binary Sub l r) (x ++ (w ++ y))) (sym s) (a_difference l r x y h t)
 sum_spelled Mul sign l r x y s h t = absurd s
 
 -- one more operand was read
-pub more_product : (acc r whole : Tree) (before here middle after : List ℕ) → Reads IsTerm acc before here → here ≡ codes " * " ++ middle → Reads IsFactor r middle after → whole ≡ binary Mul acc r → Reads IsTerm whole before after
+pub more_product : (acc r whole : Tree) (before here middle after : List ℕ) → Reads IsTerm acc before here → here ≡ codes " * " ++ middle →
+    Reads IsFactor r middle after → whole ≡ binary Mul acc r → Reads IsTerm whole before after
 more_product acc r whole before here middle after left sign right made =
-    record { text = left.text ++ (codes " * " ++ right.text); parts = three_parts left.text (codes " * ") right.text before here middle after left.parts sign right.parts; spelled = subst (λ t. IsTerm t (left.text ++ (codes " * " ++ right.text))) (sym made) (a_product acc r left.text right.text left.spelled right.spelled) }
+    record {
+      text = left.text ++ (codes " * " ++ right.text);
+      parts = three_parts left.text (codes " * ") right.text before here middle after left.parts sign right.parts;
+      spelled = subst (λ t. IsTerm t (left.text ++ (codes " * " ++ right.text))) (sym made) (a_product acc r left.text right.text left.spelled right.spelled);
+    }
 
-pub more_sum : (op : Operator) (sign : List ℕ) (acc r whole : Tree) (before here middle after : List ℕ) → Reads IsExpression acc before here → IsSumSign op sign → here ≡ sign ++ middle → Reads IsTerm r middle after → whole ≡ binary op acc r → Reads IsExpression whole before after
+pub more_sum : (op : Operator) (sign : List ℕ) (acc r whole : Tree) (before here middle after : List ℕ) →
+    Reads IsExpression acc before here → IsSumSign op sign → here ≡ sign ++ middle → Reads IsTerm r middle after → whole ≡ binary op acc r →
+    Reads IsExpression whole before after
 more_sum op sign acc r whole before here middle after left s is right made =
-    record { text = left.text ++ (sign ++ right.text); parts = three_parts left.text sign right.text before here middle after left.parts is right.parts; spelled = subst (λ t. IsExpression t (left.text ++ (sign ++ right.text))) (sym made) (sum_spelled op sign acc r left.text right.text s left.spelled right.spelled) }
+    record {
+      text = left.text ++ (sign ++ right.text);
+      parts = three_parts left.text sign right.text before here middle after left.parts is right.parts;
+      spelled = subst (λ t. IsExpression t (left.text ++ (sign ++ right.text))) (sym made) (sum_spelled op sign acc r left.text right.text s left.spelled right.spelled);
+    }

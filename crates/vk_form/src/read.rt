@@ -17,8 +17,8 @@ use std::alloc::Global;
 /// ```
 ///
 /// The name and the one to eight parameters are letters from `a` to `z`, all different. The result has one to 32
-/// factors, each a parameter or a decimal number of at most 2147483647, joined by ` * `, ` + ` and ` - `, which all
-/// take their operands from the left. The last newline may be missing.
+/// factors, each a parameter or a decimal number of at most 2147483647, joined by ` * `, which binds first, and by
+/// ` + ` and ` - `, all from the left: `a - b - 3 * a` is `(a - b) - (3 * a)`. The last newline may be missing.
 ///
 /// # Errors
 ///

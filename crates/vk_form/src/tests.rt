@@ -4,6 +4,74 @@ use crate::{Expr, Form, FormFail, Operator, read_form};
 use std::alloc::{AllocError, Global};
 use std::test::Fail;
 
+// What follows the pragma line, and the tree that it spells.
+const FUNCTIONS: [(&str, &str); 39] = [
+    // The frame.
+    (
+        "int f(int a, int b) { return a * b + 1; }\n",
+        "f:ab: a b * 1 +",
+    ),
+    (
+        "int f(int a, int b) { return a * b + 1; }",
+        "f:ab: a b * 1 +",
+    ),
+    ("int f(int a, int b) { return a * b + 1; }\n\n", "refused"),
+    ("int f(int a, int b) { return a * b + 1; }\r\n", "refused"),
+    ("int f(int a, int b) { return a * b + 1; } ", "refused"),
+    ("int f(int a, int b) { return a * b + 1 }\n", "refused"),
+    ("int f(int a, int b) { return a * b + 1;}\n", "refused"),
+    ("int f(int a, int b) {\n return a * b + 1; }\n", "refused"),
+    (" int f(int a) { return a; }\n", "refused"),
+    ("long f(int a) { return a; }\n", "refused"),
+    ("", "refused"),
+    // The letters.
+    ("int f() { return 1; }\n", "refused"),
+    ("int z(int a) { return 1; }\n", "z:a: 1"),
+    (
+        "int i(int a, int b, int c, int d, int e, int f, int g, int h) { return a - h; }\n",
+        "i:abcdefgh: a h -",
+    ),
+    (
+        "int j(int a, int b, int c, int d, int e, int f, int g, int h, int i) { return a; }\n",
+        "refused",
+    ),
+    ("int f(int a, int b, int a) { return b; }\n", "refused"),
+    ("int f(int f) { return 1; }\n", "refused"),
+    ("int f(int a) { return b; }\n", "refused"),
+    ("int f(int a) { return f; }\n", "refused"),
+    ("int f(int A) { return 1; }\n", "refused"),
+    ("int f(int ab) { return 1; }\n", "refused"),
+    ("int f(int a,int b) { return a; }\n", "refused"),
+    // The expression.
+    (
+        "int f(int a, int b) { return a - b - 3 * a; }\n",
+        "f:ab: a b - 3 a * -",
+    ),
+    (
+        "int f(int a, int b) { return a * b * 2 - b + a; }\n",
+        "f:ab: a b * 2 * b - a +",
+    ),
+    (
+        "int f(int a, int b) { return a + b * 2 - 1; }\n",
+        "f:ab: a b 2 * + 1 -",
+    ),
+    ("int f(int a, int b) { return a+b; }\n", "refused"),
+    ("int f(int a, int b) { return (a + b); }\n", "refused"),
+    ("int f(int a, int b) { return a / b; }\n", "refused"),
+    ("int f(int a) { return a +; }\n", "refused"),
+    ("int f(int a) { return -a; }\n", "refused"),
+    ("int f(int a) { return ; }\n", "refused"),
+    // The numbers.
+    ("int f(int a) { return 0; }\n", "f:a: 0"),
+    ("int f(int a) { return 2147483647; }\n", "f:a: 2147483647"),
+    ("int f(int a) { return 2147483648; }\n", "refused"),
+    ("int f(int a) { return 4294967297; }\n", "refused"),
+    ("int f(int a) { return 007; }\n", "refused"),
+    ("int f(int a) { return 00; }\n", "refused"),
+    ("int f(int a) { return +7; }\n", "refused"),
+    ("int f(int a) { return 7a; }\n", "refused"),
+];
+
 // The name, the parameters, and the result with each operator behind its operands.
 fn show(alloc: Global, form: &Form) -> Result<String, AllocError> {
     let mut text = String::new(alloc);
@@ -58,81 +126,25 @@ fn ones(alloc: Global, count: usize) -> Result<String, AllocError> {
 
 #[test]
 fn reads_functions(rt: HostRuntime) -> Result<(), Fail> {
-    let table = [
-        // The frame.
-        (
-            "int f(int a, int b) { return a * b + 1; }\n",
-            "f:ab: a b * 1 +",
-        ),
-        (
-            "int f(int a, int b) { return a * b + 1; }",
-            "f:ab: a b * 1 +",
-        ),
-        ("int f(int a, int b) { return a * b + 1; }\n\n", "refused"),
-        ("int f(int a, int b) { return a * b + 1; }\r\n", "refused"),
-        ("int f(int a, int b) { return a * b + 1; } ", "refused"),
-        ("int f(int a, int b) { return a * b + 1 }\n", "refused"),
-        ("int f(int a, int b) { return a * b + 1;}\n", "refused"),
-        ("int f(int a, int b) {\n return a * b + 1; }\n", "refused"),
-        (" int f(int a) { return a; }\n", "refused"),
-        ("long f(int a) { return a; }\n", "refused"),
-        ("", "refused"),
-        // The letters.
-        ("int f() { return 1; }\n", "refused"),
-        ("int z(int a) { return 1; }\n", "z:a: 1"),
-        (
-            "int i(int a, int b, int c, int d, int e, int f, int g, int h) { return a - h; }\n",
-            "i:abcdefgh: a h -",
-        ),
-        (
-            "int j(int a, int b, int c, int d, int e, int f, int g, int h, int i) { return a; }\n",
-            "refused",
-        ),
-        ("int f(int a, int b, int a) { return b; }\n", "refused"),
-        ("int f(int f) { return 1; }\n", "refused"),
-        ("int f(int a) { return b; }\n", "refused"),
-        ("int f(int a) { return f; }\n", "refused"),
-        ("int f(int A) { return 1; }\n", "refused"),
-        ("int f(int ab) { return 1; }\n", "refused"),
-        ("int f(int a,int b) { return a; }\n", "refused"),
-        // The expression.
-        (
-            "int f(int a, int b) { return a - b - 3 * a; }\n",
-            "f:ab: a b - 3 a * -",
-        ),
-        (
-            "int f(int a, int b) { return a * b * 2 - b + a; }\n",
-            "f:ab: a b * 2 * b - a +",
-        ),
-        (
-            "int f(int a, int b) { return a + b * 2 - 1; }\n",
-            "f:ab: a b 2 * + 1 -",
-        ),
-        ("int f(int a, int b) { return a+b; }\n", "refused"),
-        ("int f(int a, int b) { return (a + b); }\n", "refused"),
-        ("int f(int a, int b) { return a / b; }\n", "refused"),
-        ("int f(int a) { return a +; }\n", "refused"),
-        ("int f(int a) { return -a; }\n", "refused"),
-        ("int f(int a) { return ; }\n", "refused"),
-        // The numbers.
-        ("int f(int a) { return 0; }\n", "f:a: 0"),
-        ("int f(int a) { return 2147483647; }\n", "f:a: 2147483647"),
-        ("int f(int a) { return 2147483648; }\n", "refused"),
-        ("int f(int a) { return 4294967297; }\n", "refused"),
-        ("int f(int a) { return 007; }\n", "refused"),
-        ("int f(int a) { return 00; }\n", "refused"),
-        ("int f(int a) { return +7; }\n", "refused"),
-        ("int f(int a) { return 7a; }\n", "refused"),
-    ];
-    for (function, want) in table {
+    for (function, want) in FUNCTIONS {
         let found = outcome(rt.alloc(), function)?;
         assert!(rt; found.as_str() == want, "{function}");
     }
+    Ok(())
+}
+
+#[test]
+fn counts_factors(rt: HostRuntime) -> Result<(), Fail> {
     for (count, is_read) in [(1, true), (32, true), (33, false), (34, false)] {
         let function = ones(rt.alloc(), count)?;
         let found = outcome(rt.alloc(), function.as_str())?;
         assert!(rt; (found.as_str() != "refused") == is_read, "{count} factors");
     }
+    Ok(())
+}
+
+#[test]
+fn wants_the_pragma_line(rt: HostRuntime) {
     let other_heads = [
         "",
         "int f(int a) { return a; }\n",
@@ -143,5 +155,4 @@ fn reads_functions(rt: HostRuntime) -> Result<(), Fail> {
     for text in other_heads {
         assert!(rt; read_form(rt.alloc(), text.as_bytes()).is_err(), "{text}");
     }
-    Ok(())
 }

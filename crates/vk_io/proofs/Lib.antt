@@ -1,3 +1,4 @@
+pub mod Counting
 pub mod Grown
 mod Sofar
 mod Fronts

@@ -3,6 +3,7 @@ use Rattle.std.proofs.Common.{◌≡◌, ℕ, ◌≤◌, List, [], ◌++◌, Boo
 use Rattle.vk_io.specs.Counts.{CountsOf, SameCounts}
 use Rattle.vk_io.specs.Store.{SameFiles}
 use Rattle.vk_io.specs.Whole.{IsFront}
+use Rattle.vk_io.proofs.Counting.{CountsOf-then}
 use Rattle.vk_io.proofs.Fronts.{IsFront-none}
 
 -- a sink that was given a text so far
@@ -19,13 +20,6 @@ pub record HasRead (name : List ℕ) (tells tells_now : Bool) (reads reads_now w
   pub same_writes : SameCounts writes writes_now
   pub same : SameFiles file file_now
   pub read : IsTrue tells → IsFront (file name) front
-
--- two changes of one name's count are one
-pub CountsOf-then : (name : List ℕ) (a b c : List ℕ → ℕ) → CountsOf name a b → CountsOf name b c → CountsOf name a c
-CountsOf-then name a b c x y = record {
-  later = λ q. let first : a q ≤ b q = x.later q in let second : b q ≤ c q = y.later q in omega arith;
-  others = λ q ne. y.others q ne ∙ x.others q ne;
-}
 
 -- at the beginning nothing was read
 pub HasRead-none : (name : List ℕ) (tells : Bool) (reads writes : List ℕ → ℕ) (file : List ℕ → Option (List ℕ)) → HasRead name tells tells reads reads writes writes file file []

@@ -17,7 +17,8 @@ pub struct StreamSink<W: Write + Drop> {
 impl<W: Write + Drop> StreamSink<W> {
     /// A sink over `writer` with no faults yet.
     pub fn new(writer: W) -> StreamSink<W>
-        ensures { ⟦<StreamSink<W> as Sink>⟧.faults result ≡ 0 }
+        ensures faults { ⟦<StreamSink<W> as Sink>⟧.faults result ≡ 0 }
+        ensures lean { ⟦<StreamSink<W> as Sink>⟧.is_lean result ≡ true }
     {
         StreamSink { writer, faults: 0 }
     }

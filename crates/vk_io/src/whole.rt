@@ -43,8 +43,8 @@ impl From<AllocError> for WholeFail {
     }
 }
 
-/// Reads one more piece of the file behind `all`, of at most `limit` bytes and one, and answers
-/// how many bytes came.
+/// Reads one more piece of the file to the end of `all`, which then has at most one byte past the
+/// limit, and answers how many bytes came: 0 at the file's end.
 fn read_more<S: Store>(
     store: &mut S,
     name: &str,

@@ -1,4 +1,4 @@
-use Rattle.std.proofs.Common.{ℕ, arith, length, ◌<◌}
+use Rattle.std.proofs.Common.{arith, length, ◌<◌}
 use Rattle.std.proofs.Common.{◌∙◌}
 use Rattle.std.proofs.Math.ListN.{length-set}
 use Rattle.vk_types.specs.Numbers.{IsCanonical, number_of}

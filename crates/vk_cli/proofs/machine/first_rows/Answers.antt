@@ -1,5 +1,4 @@
 -- The rows that are added are of zeros.
-use Rattle.std.proofs.Common.{◌≡◌, length, ◌≤◌, vec_len, rules}
 use Rattle.std.proofs.lemmas.List.{take_all}
 use Rattle.vk_cli.proofs.Rows.{lane_of-more}
 use Rattle.vk_cli.proofs.machine.first_rows.Goals as goal

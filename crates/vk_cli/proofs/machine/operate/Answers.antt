@@ -1,5 +1,5 @@
 -- What an operation writes, in each lane.
-use Rattle.std.proofs.Common.{◌≡◌, ◌<◌, ap, sym, ◌∙◌, arith, rules, length, subst, get_or}
+use Rattle.std.proofs.Common.{◌≡◌, ◌<◌, ap, sym, ◌∙◌, arith, rules, length, subst}
 use Rattle.vk_types.specs.Numbers.{IsCanonical}
 use Rattle.vk_code.specs.Lane.{with_reg}
 use Rattle.vk_cli.specs.Machine.{lane_of}

@@ -1,9 +1,9 @@
 -- The first frame, and one more instruction.
-use Rattle.std.proofs.Common.{◌≡◌, ℕ, ◌<◌, length, vec_len, ap, sym, ◌∙◌, subst, rules, drop}
-use Rattle.vk_types.specs.Numbers.{IsCanonical, number_of}
+use Rattle.std.proofs.Common.{ap, sym, ◌∙◌, subst, rules}
+use Rattle.vk_types.specs.Numbers.{IsCanonical}
 use Rattle.vk_code.specs.Code.{types_of}
 use Rattle.vk_code.specs.Lane.{Lane, run}
-use Rattle.vk_cli.specs.Machine.{column, lane_of}
+use Rattle.vk_cli.specs.Machine.{lane_of}
 use Rattle.vk_cli.proofs.Rows.{called_with-column, run-drop}
 use Rattle.vk_cli.proofs.machine.run.Goals as goal
 

@@ -1,6 +1,7 @@
 use Rattle.std.proofs.Common.{rules, arith, ◌≡◌, ◌<◌, length, vec_len}
+use Rattle.vk_io.proofs.Counting.{CountsOf-then}
 use Rattle.vk_io.proofs.Fronts.{IsTooLong-front}
-use Rattle.vk_io.proofs.Sofar.{CountsOf-then, HasRead-none, HasRead-more, HasRead-whole}
+use Rattle.vk_io.proofs.Sofar.{HasRead-none, HasRead-more, HasRead-whole}
 use Rattle.vk_io.proofs.whole.read_whole.Goals as goal
 
 pub loop-all-init : goal.loop-all-init

@@ -7,13 +7,13 @@ pub returns-in_err-letter-2-clause-again : goal.returns-in_err-letter-2-clause-a
 returns-in_err-letter-2-clause-again c =
     λ ps tail letters some few stop is.
     let left = c.letters.invariant.again ps tail letters some few stop is in
-    let next = next_parameter c.letters.parameters.items ps c.letters.self.rest.now c.takes.new.self.rest.now tail letters stop left (c.letters-test.ensures.found refl) in
+    let next = next_parameter _ ps _ _ tail letters stop left (c.letters-test.ensures.found refl) in
     let never = c.in_err-letter-2.ensures.again next.next _ next.letter next.parts in
     absurd cc
 
 pub letters-preserved : goal.letters-preserved
 letters-preserved c = record {
-  found = rw c.in_ok-push-2.ensures.items (text_push c.letters.parameters.items c.in_ok-letter-2.field-0 _ c.letters.self.rest.now c.takes.new.self.rest.now _ c.letters.invariant.some c.letters.invariant.found (c.letters-test.ensures.found refl) c.in_ok-letter-2.ensures.found.1);
+  found = rw c.in_ok-push-2.ensures.items (text_push _ _ _ _ _ _ c.letters.invariant.some c.letters.invariant.found (c.letters-test.ensures.found refl) c.in_ok-letter-2.ensures.found.1);
   letters = rw c.in_ok-push-2.ensures.items (letters_push c.letters.parameters.items c.in_ok-letter-2.field-0 c.letters.invariant.letters c.in_ok-letter-2.ensures.found.0);
   some = grind (arith, common_steps);
   few =
@@ -22,7 +22,7 @@ letters-preserved c = record {
   factors = search rules;
   again = λ ps tail letters some few stop is.
       let left = c.letters.invariant.again ps tail letters some few stop is in
-      let next = next_parameter c.letters.parameters.items ps c.letters.self.rest.now c.takes.new.self.rest.now tail letters stop left (c.letters-test.ensures.found refl) in
+      let next = next_parameter _ ps _ _ tail letters stop left (c.letters-test.ensures.found refl) in
       let read = c.in_ok-letter-2.ensures.again next.next _ next.letter next.parts in
       let same : c.in_ok-letter-2.field-0 ≡ next.next = (cc) in
       rw c.in_ok-push-2.ensures.items (left_after c.letters.parameters.items ps _ _ tail c.in_ok-letter-2.field-0 next same read.1);

@@ -1,4 +1,4 @@
-use Rattle.std.proofs.Common.{◌≡◌, codes, refl, ap, ◌∙◌, arith, rules}
+use Rattle.std.proofs.Common.{◌+◌, ◌≡◌, codes, refl, ap, ◌∙◌, arith, rules}
 use Rattle.vk_form.specs.declared.tree.Operator.TheVariants.{Mul}
 use Rattle.vk_form.specs.declared.tree.FormFail.TheVariants.{Memory}
 use Rattle.vk_form.specs.Form.{tree_of}
@@ -11,7 +11,7 @@ use Rattle.vk_form.proofs.reader.Reader.term.Goals as goal
 pub returns-in_err-product-clause-again : goal.returns-in_err-product-clause-again
 returns-in_err-product-clause-again c =
     λ e text tail spelled stop few is.
-    let memory : c.in_err-product.field-0.0 ≡ Memory = first_fails factors_level c.in_err-product.field-0.0 c.args.self.now.factors_left e c.args.self.now.rest.now c.factor.new.self.rest.now tail c.in_err-product.ensures.again (term_first e text c.args.self.now.rest.now tail spelled is) stop few in
+    let memory : c.in_err-product.field-0.0 ≡ Memory = first_fails factors_level _ _ e _ c.factor.new.self.rest.now tail c.in_err-product.ensures.again (term_first e text _ tail spelled is) stop few in
     search rules
 
 pub factors-init : goal.factors-init
@@ -20,23 +20,31 @@ factors-init c = record {
   count = search rules;
   some = omega (arith, c.in_ok-product.ensures.one);
   again = λ e text tail spelled stop few is.
-      first_read factors_level c.in_ok-product.product _ e _ _ tail c.in_ok-product.ensures.again (term_first e text c.args.self.now.rest.now tail spelled is) stop few;
+      first_read factors_level c.in_ok-product.product _ e _ _ tail c.in_ok-product.ensures.again (term_first e text _ tail spelled is) stop few;
 }
 
 pub returns-in_err-right-clause-again : goal.returns-in_err-right-clause-again
 returns-in_err-right-clause-again c =
     λ e text tail spelled stop few is.
     let more = c.factors.invariant.again e text tail spelled stop few is in
-    let memory : c.in_err-right.field-0.0 ≡ Memory = next_fails factors_level Mul (codes " * ") (tree_of c.factors.product) c.in_err-right.field-0.0 c.takes.new.self.factors_left c.args.self.now.factors_left e c.factors.self.rest.now c.takes.new.self.rest.now c.factor-in-factors.new.self.rest.now tail c.in_err-right.ensures.again more refl (c.factors-test.ensures.found refl) stop few (omega (arith, c.factors-test.ensures.factors, c.factors.invariant.count)) in
+    let sign = c.factors-test.ensures.found refl in
+    let count : c.takes.new.self.factors_left + factor_count (tree_of c.factors.product) ≡ c.args.self.now.factors_left =
+    omega (arith, c.factors-test.ensures.factors, c.factors.invariant.count) in
+    let memory : c.in_err-right.field-0.0 ≡ Memory =
+    next_fails factors_level Mul (codes " * ") _ _ _ _ e _ _ c.factor-in-factors.new.self.rest.now tail c.in_err-right.ensures.again more refl sign stop few count in
     search rules
 
 pub factors-preserved : goal.factors-preserved
 factors-preserved c = record {
-  found = more_product (tree_of c.factors.product) (tree_of c.in_ok-right.right) _ _ c.factors.self.rest.now c.takes.new.self.rest.now _ c.factors.invariant.found (c.factors-test.ensures.found refl) c.in_ok-right.ensures.found c.in_ok-product-2.ensures;
+  found = more_product _ _ _ _ _ _ _ c.factors.invariant.found (c.factors-test.ensures.found refl) c.in_ok-right.ensures.found c.in_ok-product-2.ensures;
   count = omega (arith, ap factor_count c.in_ok-product-2.ensures, c.factors.invariant.count, c.factors-test.ensures.factors, c.in_ok-right.ensures.factors);
   some = omega (arith, ap factor_count c.in_ok-product-2.ensures, c.factors.invariant.some);
   again = λ e text tail spelled stop few is.
-      next_read factors_level Mul (codes " * ") (tree_of c.factors.product) (tree_of c.in_ok-product-2.product) c.in_ok-right.right c.takes.new.self.factors_left c.args.self.now.factors_left e c.factors.self.rest.now c.takes.new.self.rest.now c.factor-in-factors.new.self.rest.now tail c.in_ok-right.ensures.again (c.factors.invariant.again e text tail spelled stop few is) refl (c.factors-test.ensures.found refl) c.in_ok-product-2.ensures stop few (omega (arith, c.factors-test.ensures.factors, c.factors.invariant.count));
+      let more = c.factors.invariant.again e text tail spelled stop few is in
+      let sign = c.factors-test.ensures.found refl in
+      let count : c.takes.new.self.factors_left + factor_count (tree_of c.factors.product) ≡ c.args.self.now.factors_left =
+      omega (arith, c.factors-test.ensures.factors, c.factors.invariant.count) in
+      next_read factors_level Mul (codes " * ") _ _ c.in_ok-right.right _ _ e _ _ _ tail c.in_ok-right.ensures.again more refl sign c.in_ok-product-2.ensures stop few count;
 }
 
 pub returns-clause-again : goal.returns-clause-again

@@ -1,0 +1,161 @@
+// How a command ends, with the status and the line on standard error of each end.
+
+ghost use Rattle.std.specs.Prelude.{◌≡◌, IfOk, string_bytes};
+ghost use Rattle.vk_cli.specs.Answers.{call_label, message_of, status_of, stop_word, word_label};
+
+use std::alloc::{AllocError, Global};
+use vk_types::Stop;
+
+/// A rule that the words of a command line break.
+#[derive(Clone, Copy, PartialEq, Eq, Debug)]
+pub enum WordRule {
+    /// No word.
+    P1,
+    /// An unknown command.
+    P2,
+    /// Words that are not of the command's form.
+    P3,
+    /// A value that is not one of those stated.
+    P4,
+}
+
+/// What is wrong with the words.
+#[derive(Clone, Copy, PartialEq, Eq, Debug)]
+pub struct WordFault {
+    pub rule: WordRule,
+}
+
+/// A rule that a call of a variant breaks.
+#[derive(Clone, Copy, PartialEq, Eq, Debug)]
+pub enum CallRule {
+    /// There is no such entry.
+    A1,
+    /// An argument does not fit its kind.
+    A2,
+    /// Two lanes are not apart.
+    A3,
+    /// An argument is missing, extra or wrong.
+    A4,
+    /// The mask is wrong.
+    A5,
+}
+
+/// What is wrong with a call: for A4 the parameter and the lane, for A1 twice 0.
+#[derive(Clone, Copy, PartialEq, Eq, Debug)]
+pub struct CallFault {
+    pub rule: CallRule,
+    pub first: u32,
+    pub second: u32,
+}
+
+/// Why a command refused its input. `input` is the number of the input file among the command's, from 0.
+#[derive(Clone, Copy, PartialEq, Eq, Debug)]
+pub enum Refusal {
+    /// The unit is not of a form that is built yet.
+    NotYet { input: usize },
+    Call(CallFault),
+}
+
+/// How a command ended.
+#[derive(Clone, Copy, PartialEq, Eq, Debug)]
+pub enum End {
+    /// All was done and written.
+    Done,
+    Refused(Refusal),
+    Words(WordFault),
+    /// The program stopped.
+    Stopped(Stop),
+    /// The input file of this number could not be read.
+    ReadFault(usize),
+    /// What was to be written could not be.
+    WriteFault,
+    /// There was no memory left.
+    Memory,
+}
+
+impl End {
+    /// The exit status: 0 where all was done, and 1 to 6 for the other ends in turn.
+    pub fn status(self) -> u8
+        ensures { result ≡ status_of self }
+    {
+        match self {
+            End::Done => 0,
+            End::Refused(_) => 1,
+            End::Words(_) => 2,
+            End::Stopped(_) => 3,
+            End::ReadFault(_) => 4,
+            End::WriteFault => 5,
+            End::Memory => 6,
+        }
+    }
+
+    /// The line for standard error, none where all was done. `file` is the input file that it names.
+    pub fn message(self, alloc: Global, file: &str) -> Result<String, AllocError>
+        ensures { IfOk result (λ text. string_bytes text ≡ message_of file.now self) }
+    {
+        match self {
+            End::Done => Ok(String::new(alloc)),
+            End::Refused(refusal) => refusal.message(alloc, file),
+            End::Words(fault) => format!(in alloc; "vfabi: words: {}\n", fault.rule.label()),
+            End::Stopped(stop) => format!(in alloc; "vfabi: stop {}\n", word_of_stop(stop)),
+            End::ReadFault(_) => format!(in alloc; "vfabi: read fault: {file}\n"),
+            End::WriteFault => String::from_str(alloc, "vfabi: write fault\n"),
+            End::Memory => String::from_str(alloc, NO_MEMORY),
+        }
+    }
+}
+
+/// The line of want of memory, which takes none.
+pub const NO_MEMORY: &str = "vfabi: no memory\n";
+
+impl Refusal {
+    fn message(self, alloc: Global, file: &str) -> Result<String, AllocError>
+        ensures { IfOk result (λ text. string_bytes text ≡ message_of file.now (End.Refused self)) }
+    {
+        match self {
+            Refusal::NotYet { .. } => format!(in alloc; "vfabi: {file}: X1\n"),
+            Refusal::Call(fault) => {
+                let label = fault.rule.label();
+                let (first, second) = (fault.first, fault.second);
+                format!(in alloc; "vfabi: call: {label} {first} {second}\n")
+            }
+        }
+    }
+}
+
+impl WordRule {
+    fn label(self) -> &'static str
+        ensures { result.now ≡ word_label self }
+    {
+        match self {
+            WordRule::P1 => "P1",
+            WordRule::P2 => "P2",
+            WordRule::P3 => "P3",
+            WordRule::P4 => "P4",
+        }
+    }
+}
+
+impl CallRule {
+    fn label(self) -> &'static str
+        ensures { result.now ≡ call_label self }
+    {
+        match self {
+            CallRule::A1 => "A1",
+            CallRule::A2 => "A2",
+            CallRule::A3 => "A3",
+            CallRule::A4 => "A4",
+            CallRule::A5 => "A5",
+        }
+    }
+}
+
+fn word_of_stop(stop: Stop) -> &'static str
+    ensures { result.now ≡ stop_word stop }
+{
+    match stop {
+        Stop::Divide => "divide",
+        Stop::Bounds => "bounds",
+        Stop::Turns => "turns",
+    }
+}
