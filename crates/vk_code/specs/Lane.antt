@@ -1,5 +1,5 @@
 -- What code does in one lane. Lanes don't see each other in these instructions, so a run of several lanes is one run each.
-use Rattle.std.specs.Prelude.{ℕ, ◌==◌, Bool, true, false, ◌&&◌, cond, ℤ, List, [], ◌∷◌, Option, Some, None, is_none, Result, Ok, Err}
+use Rattle.std.specs.Prelude.{ℕ, ◌==◌, Bool, ◌&&◌, cond, ℤ, List, [], ◌∷◌, Option, Some, None, is_none, Result, Ok, Err}
 use Rattle.vk_types.specs.declared.types.Ty.{Ty}
 use Rattle.vk_types.specs.declared.types.Stop.{Stop}
 use Rattle.vk_types.specs.Numbers.{number_of, word_of}
