@@ -12,3 +12,6 @@ pub use names::{NameHead, ReadName};
 pub use read::read_name;
 pub use rules::{NameFault, NameRule};
 pub use write::write_name;
+
+#[cfg(test)]
+mod tests;
