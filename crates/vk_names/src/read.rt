@@ -1,7 +1,8 @@
 // Reading a name, from left to right.
-ghost use Rattle.std.specs.Prelude.{◌≡◌, ◌<◌, ◌≤◌, ◌^◌, length, IfOk, IfErr};
+ghost use Rattle.std.specs.Prelude.{◌≡◌, ℕ, ◌<◌, ◌≤◌, ◌^◌, length, IfOk, IfErr, IsOkAnd, IsErrAnd};
 ghost use Rattle.std.specs.List.{prefix_len};
-ghost use Rattle.vk_names.specs.Spelling.{text_of, is_name_byte, name_of, name_in, Spells};
+ghost use Rattle.vk_names.specs.Spelling.{Name, text_of, is_name_byte, name_of, name_in, Spells};
+ghost use Rattle.vk_names.specs.declared.rules.NameRule.{NameRule};
 ghost use Rattle.vk_names.specs.Refusal.{NameRefused};
 ghost use Rattle.vk_names.specs.Reading.{Gives, digits_at, has_zero, number_at, position_at, byte_at, mark_at, isa_at, mask_at, len_at, front_at, scalar_at, name_at};
 
@@ -230,6 +231,11 @@ pub fn read_name(bytes: &[u8]) -> Result<ReadName, NameFault>
     ensures used { IfOk result (λ r. r.used ≡ length (text_of bytes.now)) }
     // The bytes are refused at this place by this rule.
     ensures refused { IfErr result (λ fault. NameRefused bytes.now fault.at fault.rule) }
+    // What is spelled is read, and what is refused is refused so.
+    ensures every_name { (name : Name) → Spells name bytes.now
+        → IsOkAnd result (λ r. name_in r.head r.scalar_at r.used bytes.now ≡ name) }
+    ensures every_fault { (at : ℕ) (rule : NameRule) → NameRefused bytes.now at rule
+        → IsErrAnd result (λ fault. (fault.at ≡ at) × (fault.rule ≡ rule)) }
 {
     let text = text_of(bytes);
     match whole(text) {
