@@ -61,10 +61,11 @@ abbrev pub Ends : (ℕ → Bool) → List ℕ → Type 0
 Ends goes [] = Unit {0}
 Ends goes (b ∷ more) = goes b ≡ false
 
--- one of `v u l R L U`
+-- one of `l R L U`
 abbrev pub has_step : ℕ → Bool
 has_step b = (b == 108) || ((b == 82) || ((b == 76) || (b == 85)))
 
+-- one of `v u l R L U`
 abbrev pub is_kind_letter : ℕ → Bool
 is_kind_letter b = (b == 118) || ((b == 117) || has_step b)
 
@@ -109,18 +110,18 @@ pub data Refused (text : List ℕ) : ℕ → NameRule → Type 0 where
       → is_kind_letter b ≡ true → length before ≡ 64 → StandsAt text at (b ∷ rest) → Refused text at N12
   -- N9: the text ends where a parameter or the `_` is wanted
   cut_off : (front : Length) (before : List Written) → Begins text front before [] → Refused text (length text) N9
-  -- N6: a plain step that is no number from 2 on
+  -- N6: a plain step that is no number from 2 to 2147483647 without a leading 0
   wrong_step : (front : Length) (before : List Written) (b : ℕ) (rest : List ℕ) (at : ℕ) → Begins text front before (b ∷ rest)
       → length before < 64 → has_step b ≡ true → digit_run rest ≢ [] → NoNumber (λ n. (2 ≤ n) × (n ≤ 2147483647)) rest
       → StandsAt text at rest → Refused text at N6
-  -- N6: no number from 1 on after `n`
+  -- N6: no number from 1 to 2147483647 without a leading 0 after `n`
   wrong_negative : (front : Length) (before : List Written) (b : ℕ) (rest : List ℕ) (at : ℕ) → Begins text front before (b ∷ 110 ∷ rest)
       → length before < 64 → has_step b ≡ true → NoNumber (λ n. (1 ≤ n) × (n ≤ 2147483647)) rest
       → StandsAt text at rest → Refused text at N6
-  -- N6: no number after `s`
+  -- N6: no number without a leading 0 after `s`
   wrong_position : (front : Length) (before : List Written) (b : ℕ) (rest : List ℕ) (at : ℕ) → Begins text front before (b ∷ 115 ∷ rest)
       → length before < 64 → has_step b ≡ true → ¬ (IsPosition (digit_run rest)) → StandsAt text at rest → Refused text at N6
-  -- N8: no alignment after `a`
+  -- N8: no power of two from 1 to 65536 without a leading 0 after `a`
   wrong_align : (front : Length) (before : List Written) (kind : Kind) (digits rest : List ℕ) (at : ℕ)
       → Begins text front before (kind_text kind digits ++ (97 ∷ rest)) → length before < 64 → IsOptionalStep (step_of kind) digits
       → NoNumber IsAlign rest → StandsAt text at rest → Refused text at N8
