@@ -1,0 +1,3 @@
+pub mod Spelling
+pub mod Refusal
+pub mod Reading

@@ -1,0 +1,17 @@
+//! Reading and writing the names of vector variants, as `_ZGVbN4vl4u_f`.
+#![tactic(auto)]
+
+pub mod laws;
+pub mod names;
+mod params;
+mod read;
+pub mod rules;
+mod write;
+
+pub use names::{NameHead, ReadName};
+pub use read::read_name;
+pub use rules::{NameFault, NameRule};
+pub use write::write_name;
+
+#[cfg(test)]
+mod tests;
