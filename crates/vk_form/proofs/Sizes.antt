@@ -43,5 +43,13 @@ length-unit_text u x ending = omega (arith, length-append {A = ℕ})
 -- at most 8 parameters and 32 factors make a short text
 pub length-text : (u : SmallUnit) (bytes : List ℕ) → IsText u bytes → length bytes ≤ 600
 length-text u bytes t =
-    omega (arith, ap length t.text, length-unit_text u t.expression t.ending, length-parameters u.parameters, t.allowed.few, t.allowed.small,
-        length-expression u.result t.expression t.spelled, length-ending t.ending t.ended)
+    omega (
+      arith,
+      ap length t.text,
+      length-unit_text u t.expression t.ending,
+      length-parameters u.parameters,
+      t.allowed.few,
+      t.allowed.small,
+      length-expression u.result t.expression t.spelled,
+      length-ending t.ending t.ended,
+    )
