@@ -7,6 +7,8 @@ mod call;
 mod compile;
 mod machine;
 mod request;
+#[cfg(test)]
+mod tests;
 mod variant;
 mod words;
 
