@@ -3,6 +3,7 @@ pub mod Store
 pub mod Sink
 pub mod Tally
 pub mod Schedule
+pub mod FileMap
 pub mod MemStore
 pub mod MemSink
 pub mod Whole

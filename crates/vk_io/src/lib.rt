@@ -5,6 +5,7 @@
 #![tactic(auto)]
 
 mod directory;
+mod file_map;
 mod lines;
 mod memory_sink;
 mod memory_store;
