@@ -6,4 +6,6 @@ pub mod Schedule
 pub mod FileMap
 pub mod MemStore
 pub mod MemSink
+pub mod PureStore
+pub mod PureSink
 pub mod Whole
