@@ -1,12 +1,12 @@
 -- What a store in memory holds.
-use Rattle.std.specs.Prelude.{ℕ, List, Option, option_map}
-use Rattle.std.specs.BTreeMap.{get_by_text}
+use Rattle.std.specs.Prelude.{ℕ, List, Option}
+use Rattle.vk_io.specs.FileMap.{contents}
 use Rattle.vk_io.specs.Tally.{count_of}
 use Rattle.vk_io.specs.declared.memory_store.MemStore.{MemStore}
 
 -- the bytes of a name's file
 abbrev pub stored : MemStore → List ℕ → Option (List ℕ)
-stored store q = option_map (λ file. file.items) (get_by_text store.files q)
+stored store = contents store.files
 
 -- the read count of a name
 abbrev pub reads_of : MemStore → List ℕ → ℕ

@@ -5,10 +5,13 @@
 #![tactic(auto)]
 
 mod directory;
+mod file_map;
 mod lines;
 mod memory_sink;
 mod memory_store;
 mod outside;
+mod pure_sink;
+mod pure_store;
 mod schedule;
 mod sink;
 mod store;
@@ -22,6 +25,8 @@ pub use lines::put_lines;
 pub use memory_sink::MemSink;
 pub use memory_store::MemStore;
 pub use outside::{Memory, Outside};
+pub use pure_sink::PureSink;
+pub use pure_store::PureStore;
 pub use sink::Sink;
 pub use store::Store;
 pub use stream::StreamSink;

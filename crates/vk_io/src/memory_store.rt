@@ -1,17 +1,17 @@
 //! A store in memory, whose faults are chosen beforehand.
-ghost use Rattle.std.specs.Prelude.{◌≡◌, ◌≢◌, ℕ, ◌+◌, ◌≤◌, ◌⊎◌, List, true, Some, None, IsNone, IsErr, IsErrOf, IfOk, OnOk, OnErr, length, option_map};
-ghost use Rattle.std.specs.BTreeMap.{get_by_text};
+ghost use Rattle.std.specs.Prelude.{◌≡◌, ◌≢◌, ℕ, ◌≤◌, ◌⊎◌, List, true, Some, None, IsNone, IsErr, IsErrOf, IfOk, OnOk, OnErr, length};
 ghost use Rattle.vk_io.specs.Counts.{Rose, CountsOf, SameCounts, next_count};
+ghost use Rattle.vk_io.specs.FileMap.{contents};
 ghost use Rattle.vk_io.specs.Schedule.{IsListed};
-ghost use Rattle.vk_io.specs.Store.{SameFiles, OtherFilesStay, GivesFrom, Fills, Starts, AppendsTo};
+ghost use Rattle.vk_io.specs.Store.{SameFiles, OtherFilesStay, Fills, Starts, AppendsTo};
 ghost use Rattle.vk_io.specs.Tally.{count_of};
 
+use crate::file_map::{FileMap, copy_from};
 use crate::outside::{Memory, Outside};
 use crate::schedule::Schedule;
 use crate::store::Store;
 use crate::tally::Tally;
 use std::alloc::Global;
-use std::collections::BTreeMap;
 
 /// A store that keeps its files in memory and tells them.
 ///
@@ -20,22 +20,10 @@ use std::collections::BTreeMap;
 #[derive(Drop)]
 pub struct MemStore {
     alloc: Global,
-    files: BTreeMap<String, Vec<u8>>,
+    files: FileMap,
     reads: Tally,
     writes: Tally,
     schedule: Schedule,
-}
-
-/// Copies the bytes from `at` on into the front of `into`, as many as there are and fit.
-fn copy_from(bytes: &[u8], at: u64, into: &mut [u8]) -> usize
-    ensures bound { result ≤ length into.new }
-    ensures gives { GivesFrom bytes.now at result into.new }
-{
-    let start = bytes.len().min(at as usize);
-    let rest = &bytes[start..];
-    let count = rest.len().min(into.len());
-    into[..count].copy_from_slice(&rest[..count]);
-    count
 }
 
 impl MemStore {
@@ -51,7 +39,7 @@ impl MemStore {
     {
         Ok(MemStore {
             alloc,
-            files: BTreeMap::new(alloc),
+            files: FileMap::new(alloc),
             reads: Tally::new(alloc),
             writes: Tally::new(alloc),
             schedule: Schedule::new(alloc, failing)?,
@@ -68,11 +56,7 @@ impl MemStore {
         ensures failing { failing_of self.new ≡ failing_of self.old }
         ensures calls { calls_of self.new ≡ calls_of self.old }
     {
-        let mut contents = Vec::new(self.alloc);
-        contents.extend_from_slice(bytes)?;
-        let key = String::from_str(self.alloc, name)?;
-        self.files.insert(key, contents)?;
-        Ok(())
+        self.files.set(name, bytes)
     }
 
     /// A store in memory tells its files, and its trait's words are these.
@@ -89,7 +73,7 @@ impl Store for MemStore {
 
     ghost tells = { λ _. true };
 
-    ghost file = { λ store q. option_map (λ file. file.items) (get_by_text store.files q) };
+    ghost file = { λ store q. contents store.files q };
 
     ghost reads = { λ store q. count_of store.reads q };
 
@@ -114,7 +98,7 @@ impl Store for MemStore {
         let fails = self.schedule.next_fails();
         self.reads.place(self.alloc, name)?;
         match self.files.get(name) {
-            Some(file) if !fails => Ok(copy_from(file, at, into)),
+            Some(bytes) if !fails => Ok(copy_from(bytes, at, into)),
             _ => {
                 self.reads.raise(name);
                 Err(Outside::Failed)
@@ -143,7 +127,7 @@ impl Store for MemStore {
             self.writes.raise(name);
             return Err(Outside::Failed);
         }
-        self.set(name, &[])?;
+        self.files.set(name, &[])?;
         Ok(())
     }
 
@@ -168,10 +152,7 @@ impl Store for MemStore {
             self.writes.raise(name);
             return Err(Outside::Failed);
         }
-        match self.files.get_mut(name) {
-            Some(file) => file.extend_from_slice(bytes)?,
-            None => self.set(name, bytes)?,
-        }
+        self.files.append(name, bytes)?;
         Ok(())
     }
 }

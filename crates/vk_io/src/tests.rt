@@ -77,6 +77,33 @@ fn sink_calls_fail_where_listed(rt: HostRuntime) -> Result<(), Fail> {
 }
 
 #[test]
+fn pure_stores_keep_their_files(rt: HostRuntime) -> Result<(), Fail> {
+    let mut store = PureStore::new(rt.alloc())?;
+    let mut piece = [0u8; 4];
+    assert_eq!(rt; store.fill("a", 0, &mut piece), Err(Outside::Failed));
+    store.set("a", b"abcdef")?;
+    store.append("a", b"gh")?;
+    assert_eq!(rt; store.fill("a", 5, &mut piece), Ok(3));
+    assert_eq!(rt; &piece[..3], b"fgh".as_slice());
+    store.start("b")?;
+    assert_eq!(rt; store.fill("b", 0, &mut piece), Ok(0));
+    store.append("c", b"xy")?;
+    let whole = read_whole(rt.alloc(), &mut store, "c", 2)?;
+    assert_eq!(rt; whole.as_slice(), b"xy".as_slice());
+    assert_eq!(rt; store.fill("d", 0, &mut piece), Err(Outside::Failed));
+    Ok(())
+}
+
+#[test]
+fn pure_sinks_keep_their_bytes(rt: HostRuntime) -> Result<(), Fail> {
+    let mut sink = PureSink::new(rt.alloc())?;
+    sink.put(b"one")?;
+    sink.put(b"two")?;
+    assert_eq!(rt; sink.bytes(), b"onetwo".as_slice());
+    Ok(())
+}
+
+#[test]
 fn whole_files_are_read_up_to_the_limit(rt: HostRuntime) -> Result<(), Fail> {
     for (size, limit, fits) in [
         (0, 0, true),
