@@ -124,6 +124,12 @@ impl NameFeed {
             → IsDoneAnd result (λ r. name_in r.head r.scalar_at r.used self.new ≡ name) }
         ensures every_fault { (at : ℕ) (rule : NameRule) → IsTrue (is_due self.new at rule) → NameRefused self.new at rule
             → IsFaultAnd result (λ fault. (fault.at ≡ at) × (fault.rule ≡ rule)) }
+        // What was due before this piece is answered again.
+        ensures again_name { (name : Name) → IsTrue (is_ended self.old) → Spells name self.old
+            → IsDoneAnd result (λ r. name_in r.head r.scalar_at r.used self.new ≡ name) }
+        ensures again_used { IsTrue (is_ended self.old) → IfDone result (λ r. r.used ≡ length (text_of self.old)) }
+        ensures again_fault { (at : ℕ) (rule : NameRule) → IsTrue (is_due self.old at rule) → NameRefused self.old at rule
+            → IsFaultAnd result (λ fault. (fault.at ≡ at) × (fault.rule ≡ rule)) }
     {
         let _fits = self.bytes.try_extend_from_slice(piece);
         answer(self.bytes.as_slice())
