@@ -1,15 +1,12 @@
 -- What is due to be answered of bytes stays so, whatever follows them.
-use Rattle.std.proofs.Common.{◌≡◌, ◌≢◌, ℕ, zero, suc, ◌+◌, ◌<◌, ◌≤◌, Bool, true, false, not, ◌&&◌, ◌||◌, ltb, List, [], ◌∷◌, ◌++◌, length, take, drop, refl, sym, ap, subst, ◌∙◌, arith, inl, inr, ◌⊎◌, length-append, append_assoc}
+use Rattle.std.proofs.Common.{◌≡◌, ℕ, zero, suc, ◌+◌, ◌<◌, ◌≤◌, true, false, not, ◌||◌, ltb, List, [], ◌∷◌, ◌++◌, length, drop, refl, sym, ap, subst, ◌∙◌, arith, length-append, append_assoc}
 use Rattle.std.specs.Prelude.{slice_get}
 use Rattle.std.specs.Char.{is_ascii_digit}
 use Rattle.std.proofs.lemmas.Bool.{cases_Bool, ltb-true, ltb-false, lt-ltb, and_parts, and_from, or_cases, or_left, or_right, false≢true}
-use Rattle.std.proofs.lemmas.List.{take-append-le, drop-append-le, drop_at, length-drop}
+use Rattle.std.proofs.lemmas.List.{take-append-le, drop-append-le, drop_at}
 use Rattle.std.proofs.lemmas.List.Sums.{take_while-cons}
-use Rattle.vk_kinds.specs.declared.kinds.Isa.{Isa}
-use Rattle.vk_kinds.specs.declared.kinds.Kind.{Kind}
 use Rattle.vk_kinds.specs.declared.kinds.Length.{Length}
 use Rattle.vk_names.specs.declared.rules.NameRule.{NameRule}
-use Rattle.vk_names.specs.declared.rules.NameRule.TheVariants.{N1, N2, N3, N4, N5, N6, N7, N8, N9, N10, N11, N12}
 use Rattle.vk_names.specs.Spelling.{Name, Written, mark, isa_letter, mask_letter, front_text, step_of, optional_step_text, kind_letter, kind_text, params_text, IsPosition, is_name_byte, text_of, Spells}
 use Rattle.vk_names.specs.Refusal.{digit_run, BeginsWith, NoNumber, Begins, StandsAt, Refused, wrong_mark, wrong_isa, wrong_mask, wrong_len, wrong_x, stray, one_more, cut_off, wrong_step, wrong_negative, wrong_position, wrong_align, misplaced, wrong_scalar, long_scalar, NameRefused}
 use Rattle.vk_names.specs.Pieces.{is_ended, judges_run, run_ends, is_told, is_due}

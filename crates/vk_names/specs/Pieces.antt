@@ -44,6 +44,11 @@ is_due bytes at rule = is_ended bytes || is_told bytes at rule
 
 -- ---- answers
 
+abbrev pub IfMore : Progress → Type 0 → Type 0
+IfMore More P = P
+IfMore (Done name) P = Unit {0}
+IfMore (Fault fault) P = Unit {0}
+
 abbrev pub IfDone : Progress → (ReadName → Type 0) → Type 0
 IfDone More P = Unit {0}
 IfDone (Done name) P = P name

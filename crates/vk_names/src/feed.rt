@@ -1,11 +1,11 @@
 // Reading a name that comes in pieces.
-ghost use Rattle.std.specs.Prelude.{◌≡◌, ℕ, ◌+◌, ◌<◌, ◌≤◌, ◌^◌, List, [], ◌++◌, length, IfOk, IfErr, IsOkAnd, IsErrAnd, IsTrue, drop};
+ghost use Rattle.std.specs.Prelude.{◌≡◌, ℕ, ◌+◌, ◌<◌, ◌≤◌, ◌^◌, List, [], ◌++◌, length, IfOk, IfErr, IsOkAnd, IsErrAnd, IsTrue, IsFalse};
 ghost use Rattle.std.specs.Char.{is_ascii_digit};
 ghost use Rattle.std.specs.List.{prefix_len};
 ghost use Rattle.vk_names.specs.Spelling.{Name, text_of, name_in, Spells};
 ghost use Rattle.vk_names.specs.declared.rules.NameRule.{NameRule};
 ghost use Rattle.vk_names.specs.Refusal.{NameRefused};
-ghost use Rattle.vk_names.specs.Pieces.{is_ended, judges_run, run_ends, is_told, is_due, IfDone, IfFault, IsDoneAnd, IsFaultAnd};
+ghost use Rattle.vk_names.specs.Pieces.{is_ended, judges_run, run_ends, is_told, is_due, IfMore, IfDone, IfFault, IsDoneAnd, IsFaultAnd};
 
 use crate::names::ReadName;
 use crate::read::{read_name, text_len};
@@ -16,7 +16,7 @@ use std::marker::Model;
 /// What a feed answers.
 #[derive(Drop)]
 pub enum Progress {
-    /// More bytes can still change the answer.
+    /// Nothing is due to be answered yet.
     More,
     /// The name has ended.
     Done(ReadName),
@@ -24,7 +24,7 @@ pub enum Progress {
     Fault(NameFault),
 }
 
-/// A name that comes in pieces. It stands for all bytes that were fed to it.
+/// A name that comes in pieces. It stands for all bytes that were fed to it, and keeps them, at most 1048576.
 #[derive(Drop)]
 pub struct NameFeed {
     bytes: ArrayVec<u8, 1048576>,
@@ -75,6 +75,7 @@ fn is_told(bytes: &[u8], fault: NameFault) -> bool
 /// What is answered once these bytes were fed.
 fn answer(bytes: &[u8]) -> Progress
     requires { length bytes.now < 2 ^ 32 }
+    ensures more { IfMore result (IsFalse (is_ended bytes.now)) }
     ensures ended { IfDone result (λ r. IsTrue (is_ended bytes.now)) }
     ensures spelled { IfDone result (λ r. Spells (name_in r.head r.scalar_at r.used bytes.now) bytes.now) }
     ensures scalar { IfDone result (λ r. r.scalar_at < r.used) }
@@ -107,10 +108,12 @@ impl NameFeed {
     /// Takes the next piece, and answers by all bytes that were fed, in whatever pieces.
     ///
     /// `Done` comes once a byte that ends the text was fed and the text is a name. A fault comes once that byte was
-    /// fed, or before it where the refusal is told.
+    /// fed, or before it where the refusal is told. Either stays the answer, whatever is fed after it.
     pub fn feed(&mut self, piece: &[u8]) -> Progress
         requires { length self.old + length piece.now ≤ 1048576 }
         ensures fed { self.new ≡ self.old ++ piece.now }
+        // More comes only before the text has ended: in every case but those of the two answers below.
+        ensures more { IfMore result (IsFalse (is_ended self.new)) }
         // Done comes only where the text has ended, with the name that the bytes spell.
         ensures ended { IfDone result (λ r. IsTrue (is_ended self.new)) }
         ensures spelled { IfDone result (λ r. Spells (name_in r.head r.scalar_at r.used self.new) self.new) }
@@ -119,7 +122,7 @@ impl NameFeed {
         // A fault comes only where it is due, and the bytes are refused so.
         ensures refused { IfFault result (λ fault. NameRefused self.new fault.at fault.rule) }
         ensures due { IfFault result (λ fault. IsTrue (is_due self.new fault.at fault.rule)) }
-        // Each name and each refusal that is due is answered. So more bytes are asked for in every other case alone.
+        // Each name and each refusal that is due is answered.
         ensures every_name { (name : Name) → IsTrue (is_ended self.new) → Spells name self.new
             → IsDoneAnd result (λ r. name_in r.head r.scalar_at r.used self.new ≡ name) }
         ensures every_fault { (at : ℕ) (rule : NameRule) → IsTrue (is_due self.new at rule) → NameRefused self.new at rule
