@@ -6,3 +6,4 @@ pub mod Sequence
 pub mod Placement
 pub mod Whole
 pub mod Exact
+pub mod Staying

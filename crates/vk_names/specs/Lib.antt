@@ -1,3 +1,4 @@
 pub mod Spelling
 pub mod Refusal
 pub mod Reading
+pub mod Pieces

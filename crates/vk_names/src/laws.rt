@@ -1,7 +1,8 @@
 //! What holds of the two relations on bytes, `Spells` and `NameRefused`.
-ghost use Rattle.std.specs.Prelude.{◌≡◌, ℕ, ◌++◌, ◌⊎◌, List};
+ghost use Rattle.std.specs.Prelude.{◌≡◌, ℕ, ◌++◌, ◌⊎◌, List, IsTrue};
 ghost use Rattle.vk_names.specs.Spelling.{Name, IsName, Spells, name_text, text_of, is_name_byte};
 ghost use Rattle.vk_names.specs.Refusal.{NameRefused, Ends};
+ghost use Rattle.vk_names.specs.Pieces.{is_ended, is_due};
 ghost use Rattle.vk_names.specs.declared.rules.NameRule.{NameRule};
 
 /// All bytes spell exactly one name or are refused at exactly one place by exactly one rule.
@@ -27,4 +28,16 @@ pub fn written_is_read()
 pub fn read_is_written()
     ensures { (name : Name) (bytes : List ℕ) → Spells name bytes
         → IsName name × (text_of bytes ≡ name_text name) }
+{}
+
+/// What is due to be answered of bytes that come in pieces stays so, whatever follows.
+pub fn answers_stay()
+    ensures ended { (bytes more : List ℕ) → IsTrue (is_ended bytes) → IsTrue (is_ended (bytes ++ more)) }
+    ensures text { (bytes more : List ℕ) → IsTrue (is_ended bytes) → text_of (bytes ++ more) ≡ text_of bytes }
+    ensures name { (bytes more : List ℕ) (name : Name) → IsTrue (is_ended bytes) → Spells name bytes
+        → Spells name (bytes ++ more) }
+    ensures due { (bytes more : List ℕ) (at : ℕ) (rule : NameRule) → IsTrue (is_due bytes at rule)
+        → IsTrue (is_due (bytes ++ more) at rule) }
+    ensures refusal { (bytes more : List ℕ) (at : ℕ) (rule : NameRule) → IsTrue (is_due bytes at rule)
+        → NameRefused bytes at rule → NameRefused (bytes ++ more) at rule }
 {}

@@ -1,6 +1,7 @@
 //! Reading and writing the names of vector variants, as `_ZGVbN4vl4u_f`.
 #![tactic(auto)]
 
+pub mod feed;
 pub mod laws;
 pub mod names;
 mod params;
@@ -8,6 +9,7 @@ mod read;
 pub mod rules;
 mod write;
 
+pub use feed::{NameFeed, Progress};
 pub use names::{NameHead, ReadName};
 pub use read::read_name;
 pub use rules::{NameFault, NameRule};

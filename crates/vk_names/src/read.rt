@@ -19,7 +19,7 @@ fn is_name_byte(byte: u8) -> bool
 }
 
 /// How many letters, digits and underscores stand in front.
-fn text_len(bytes: &[u8]) -> usize
+pub(crate) fn text_len(bytes: &[u8]) -> usize
     ensures { result ≡ prefix_len is_name_byte bytes.now }
 {
     bytes.iter().take_while(|b| is_name_byte(**b)).count()

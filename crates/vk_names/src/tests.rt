@@ -1,4 +1,6 @@
-use crate::{NameFault, NameRule, read_name, write_name};
+ghost use Rattle.std.specs.Prelude.{◌+◌, ◌≤◌, length};
+
+use crate::{NameFault, NameFeed, NameRule, Progress, read_name, write_name};
 use arrayvec::ArrayVec;
 use std::process::Abort;
 use vk_kinds::{Isa, Kind, Len, Param, Step};
@@ -294,4 +296,139 @@ fn takes_1024_bytes_of_a_scalar_name(rt: HostRuntime) {
     assert_eq!(rt; text.len(), 1034);
     refuse(&rt, text, 1033, NameRule::N10);
     assert_eq!(rt; places(&rt, &text[..1033]), Some((9, 1033)));
+}
+
+/// What a feed should answer: nothing yet, the length of a name, or a refusal.
+#[derive(Clone, Copy, PartialEq, Eq, Debug)]
+enum Wanted {
+    More,
+    Done(u32),
+    Fault(u32, NameRule),
+}
+
+/// Feeds a piece, and compares the answer.
+fn feed(rt: &impl Abort, feed: &mut NameFeed, piece: &[u8], wanted: Wanted)
+    requires { length feed.old + 2000 ≤ 1048576 }
+    ensures { length feed.new ≤ length feed.old + 2000 }
+{
+    assert!(rt; piece.len() <= 2000);
+    let answered = match feed.feed(piece) {
+        Progress::More => Wanted::More,
+        Progress::Done(name) => Wanted::Done(name.used),
+        Progress::Fault(fault) => Wanted::Fault(fault.at, fault.rule),
+    };
+    assert_eq!(rt; answered, wanted);
+}
+
+/// Feeds three pieces, and compares each answer and that at the end.
+fn feed_all(rt: &impl Abort, pieces: &[(&[u8], Wanted); 3], at_end: Wanted) {
+    let mut fed = NameFeed::new();
+    let [first, second, third] = pieces;
+    feed(rt, &mut fed, first.0, first.1);
+    feed(rt, &mut fed, second.0, second.1);
+    feed(rt, &mut fed, third.0, third.1);
+    let ended = match fed.end() {
+        Ok(name) => Wanted::Done(name.used),
+        Err(fault) => Wanted::Fault(fault.at, fault.rule),
+    };
+    assert_eq!(rt; ended, at_end);
+}
+
+#[test]
+fn answers_by_all_bytes_that_were_fed(rt: HostRuntime) {
+    use Wanted::{Done, Fault, More};
+    let rows: [([(&[u8], Wanted); 3], Wanted); 14] = [
+        (
+            [(b"_ZGVb", More), (b"N4v_f", More), (b".", Done(10))],
+            Done(10),
+        ),
+        (
+            [
+                (b"_ZGVbN4v_f.", Done(10)),
+                (b"g", Done(10)),
+                (b"", Done(10)),
+            ],
+            Done(10),
+        ),
+        ([(b"", More), (b"_ZGVbN4v_", More), (b"f", More)], Done(10)),
+        (
+            [
+                (b"_", More),
+                (b"ZGX", Fault(3, NameRule::N1)),
+                (b".", Fault(3, NameRule::N1)),
+            ],
+            Fault(3, NameRule::N1),
+        ),
+        (
+            [(b"_ZG", More), (b"", More), (b"V", More)],
+            Fault(4, NameRule::N2),
+        ),
+        (
+            [
+                (b"_ZGVbN65", More),
+                (b"536", More),
+                (b"v", Fault(6, NameRule::N4)),
+            ],
+            Fault(6, NameRule::N4),
+        ),
+        (
+            [
+                (b"_ZGVbN0", More),
+                (b"4", More),
+                (b".", Fault(6, NameRule::N4)),
+            ],
+            Fault(6, NameRule::N4),
+        ),
+        (
+            [
+                (b"_ZGVbN", More),
+                (b"x", Fault(6, NameRule::N11)),
+                (b"v", Fault(6, NameRule::N11)),
+            ],
+            Fault(6, NameRule::N11),
+        ),
+        (
+            [(b"_ZGVbN4l1", More), (b"0", More), (b"_f", More)],
+            Done(12),
+        ),
+        (
+            [
+                (b"_ZGVbN4l1", More),
+                (b"v", Fault(8, NameRule::N6)),
+                (b"_f", Fault(8, NameRule::N6)),
+            ],
+            Fault(8, NameRule::N6),
+        ),
+        (
+            [(b"_ZGVbN4va3", More), (b"2", More), (b"_", More)],
+            Fault(12, NameRule::N10),
+        ),
+        (
+            [
+                (b"_ZGVbN4va3", More),
+                (b"_", Fault(9, NameRule::N8)),
+                (b"f", Fault(9, NameRule::N8)),
+            ],
+            Fault(9, NameRule::N8),
+        ),
+        (
+            [
+                (b"_ZGVbN4ls0", More),
+                (b"_", Fault(9, NameRule::N7)),
+                (b"f", Fault(9, NameRule::N7)),
+            ],
+            Fault(9, NameRule::N7),
+        ),
+        (
+            [
+                (b"_ZGVbN4", More),
+                (b" ", Fault(7, NameRule::N9)),
+                (b"v_f", Fault(7, NameRule::N9)),
+            ],
+            Fault(7, NameRule::N9),
+        ),
+    ];
+    for (pieces, at_end) in &rows {
+        feed_all(&rt, pieces, *at_end);
+    }
 }
