@@ -23,10 +23,6 @@ missing_first values lane number within some other fault = elim (cases_lt other 
   ]
 ]
 
--- a fault is of the four lanes, or the one after them
-pub fault_within : (values : List (Option ℤ)) (lane : ℕ) → IsFaultOfValues values lane → lane ≤ 4
-fault_within values lane fault = elim fault [ inl missing ↦ omega arith | inr extra ↦ omega arith ]
-
 -- the values of the first n arguments are all right
 abbrev pub AreRight : List (List ℕ) → ℕ → Type 0
 AreRight texts n = (p : ℕ) → p < n → (lane : ℕ) → IsFaultOfValues (values_of (get_or texts p [])) lane → ⊥
