@@ -1,40 +1,32 @@
 -- What follows for an end from what holds with it.
-use Rattle.std.proofs.Common.{◌≡◌, ◌≢◌, ℕ, ◌<◌, ◌≤◌, ◌⊎◌, inl, inr, List, ◌∷◌, length, ap, sym, ◌∙◌, subst, refl, arith}
+use Rattle.std.proofs.Common.{◌≡◌, ◌≢◌, ℕ, ◌<◌, ◌≤◌, ◌⊎◌, inl, inr, List, length, ap, sym, ◌∙◌, subst, refl, arith}
 use Rattle.vk_form.specs.Form.{SmallUnit}
 use Rattle.vk_cli.specs.declared.answers.CallRule.{CallRule}
 use Rattle.vk_cli.specs.declared.answers.CallRule.TheVariants.{A1, A2, A3, A4, A5}
 use Rattle.vk_cli.specs.declared.answers.CallFault.{CallFault}
-use Rattle.vk_cli.specs.declared.answers.Refusal.TheVariants.{NotYet, Call}
+use Rattle.vk_cli.specs.declared.answers.Refusal.TheVariants.{Size, Name as Unnamed, NotYet, Call}
 use Rattle.vk_cli.specs.declared.answers.End.{End}
 use Rattle.vk_cli.specs.declared.answers.End.TheVariants.{Done, Refused, Words, Stopped, ReadFault, WriteFault, Memory}
 use Rattle.vk_cli.specs.Arguments.{IsLeastFault}
 use Rattle.vk_cli.specs.Lines.{vector_name}
-use Rattle.vk_cli.specs.Outcome.{IsAnswer, IsCall, IsCallRefused, IsOnceRead, IsUncalled, IsUnread}
-use Rattle.vk_cli.specs.Request.{Asked, IsRequest}
-
--- the parts of equal lists
-tails : {X : Type 0} {a b c a' b' c' : X} {xs ys : List X} → a ∷ (b ∷ (c ∷ xs)) ≡ a' ∷ (b' ∷ (c' ∷ ys)) → xs ≡ ys
-tails e = cc e
-
--- the words make one request
-pub same_request : (words : List (List ℕ)) (a b : Asked) → IsRequest words a → IsRequest words b → a ≡ b
-same_request words a b p q =
-    let e : a.unit ∷ (a.name ∷ a.arguments) ≡ b.unit ∷ (b.name ∷ b.arguments) = tails (sym p ∙ q) in
-    let units : a.unit ≡ b.unit = cc e in
-    let names : a.name ≡ b.name = cc e in
-    let rest : a.arguments ≡ b.arguments = cc e in
-    λ i. record { unit = units i; name = names i; arguments = rest i }
+use Rattle.vk_cli.specs.Outcome.{IsAnswer, IsCall, IsCallRefused, IsOnceRead, IsUncalled, IsUnformed, IsUnread}
+use Rattle.vk_cli.specs.Request.{Asked}
 
 -- an answer of a unit that was not read
-pub answer_unread : (u : SmallUnit) (r : Asked) (end : End) → IsUnread end → (end ≡ Refused (NotYet 0) → ⊥) → IsAnswer u r end
-answer_unread u r end unread formed = elim unread [
-  | inl e ↦ subst (IsAnswer u r) (sym e) refl
-  | inr rest ↦ elim rest [ inl e ↦ absurd (formed e) | inr e ↦ subst (IsAnswer u r) (sym e) tt ]
+pub answer_unformed : (u : SmallUnit) (r : Asked) (end : End) → IsUnformed end → (end ≡ Refused (NotYet 0) → ⊥) → (end ≡ Refused (Size 0) → ⊥) → IsAnswer u r end
+answer_unformed u r end unformed formed small = elim unformed [
+  | inl e ↦ absurd (formed e)
+  | inr unread ↦ elim unread [
+    | inl e ↦ subst (IsAnswer u r) (sym e) refl
+    | inr rest ↦ elim rest [ inl e ↦ absurd (small e) | inr e ↦ subst (IsAnswer u r) (sym e) tt ]
+  ]
 ]
 
 -- an answer of a call that was not made
 uncalled : (u : SmallUnit) (r : Asked) (end : End) → IsUncalled u r end → IsAnswer u r end
 uncalled u r Done h = absurd h
+uncalled u r (Refused (Size input)) h = h
+uncalled u r (Refused (Unnamed line at rule)) h = h
 uncalled u r (Refused (NotYet input)) h = h
 uncalled u r (Refused (Call fault)) h = h
 uncalled u r (Words fault) h = h
@@ -46,12 +38,27 @@ uncalled u r Memory h = h
 pub answer_uncalled : (u v : SmallUnit) (r : Asked) (end : End) → u ≡ v → IsUncalled u r end → IsAnswer v r end
 answer_uncalled u v r end same h = subst (λ w. IsAnswer w r end) same (uncalled u r end h)
 
+-- a call that was not made is no refusal of the input
+pub uncalled_size : (u : SmallUnit) (r : Asked) (end : End) → IsUncalled u r end → end ≡ Refused (Size 0) → ⊥
+uncalled_size u r end h e = subst (IsUncalled u r) e h
+
 -- the answer stays what it was, or want of memory took its place
 pub kept : (result end e : End) → (result ≡ end) ⊎ (result ≡ Memory) → result ≡ e → (e ≡ Memory → ⊥) → end ≡ e
 kept result end e h is other = elim h [ inl same ↦ sym same ∙ is | inr none ↦ absurd (other (sym is ∙ none)) ]
 
 pub once_kept : (result end e : End) → (result ≡ end) ⊎ (result ≡ Memory) → IsOnceRead e end → IsOnceRead e result
 once_kept result end e h once = elim h [ inl same ↦ subst (IsOnceRead e) (sym same) once | inr none ↦ inr (inr none) ]
+
+-- an input of too many bytes
+pub once_large : (end : End) → IsUnread end → IsOnceRead (Refused (Size 0)) end
+once_large end h = elim h [ inl e ↦ inr (inl e) | inr rest ↦ elim rest [ inl e ↦ inl e | inr e ↦ inr (inr e) ] ]
+
+-- a unit of no form
+pub once_unformed : (end : End) → IsUnformed end → (end ≡ Refused (Size 0) → ⊥) → IsOnceRead (Refused (NotYet 0)) end
+once_unformed end h small = elim h [
+  | inl e ↦ inl e
+  | inr unread ↦ elim unread [ inl e ↦ inr (inl e) | inr rest ↦ elim rest [ inl e ↦ absurd (small e) | inr e ↦ inr (inr e) ] ]
+]
 
 -- the least fault is one
 least_one : (texts : List (List ℕ)) (n p l q k : ℕ) → IsLeastFault texts n p l → IsLeastFault texts n q k → (p ≡ q) × (l ≡ k)
@@ -74,6 +81,8 @@ name_end u r A5 first second h other = absurd h
 -- a wrong name
 pub once_name : (u : SmallUnit) (r : Asked) (end : End) → IsAnswer u r end → r.name ≢ vector_name u → IsOnceRead (Refused (Call (record { rule = A1; first = 0; second = 0 }))) end
 once_name u r Done h other = absurd (other h.name)
+once_name u r (Refused (Size input)) h other = absurd h
+once_name u r (Refused (Unnamed line at rule)) h other = absurd h
 once_name u r (Refused (NotYet input)) h other = absurd h
 once_name u r (Refused (Call fault)) h other = inl (name_end u r fault.rule fault.first fault.second h other)
 once_name u r (Words fault) h other = absurd h
@@ -96,6 +105,8 @@ arguments_end u r A5 first second p l h name fault = absurd h
 pub once_arguments : (u : SmallUnit) (r : Asked) (end : End) (p l : ℕ) → IsAnswer u r end → r.name ≡ vector_name u → IsLeastFault r.arguments (length u.parameters) p l →
     IsOnceRead (Refused (Call (record { rule = A4; first = p; second = l }))) end
 once_arguments u r Done p l h name fault = absurd (h.arguments p l fault.fault)
+once_arguments u r (Refused (Size input)) p l h name fault = absurd h
+once_arguments u r (Refused (Unnamed line at rule)) p l h name fault = absurd h
 once_arguments u r (Refused (NotYet input)) p l h name fault = absurd h
 once_arguments u r (Refused (Call f)) p l h name fault = inl (arguments_end u r f.rule f.first f.second p l h name fault)
 once_arguments u r (Words f) p l h name fault = absurd h
@@ -115,6 +126,8 @@ no_refusal u r A5 first second h call = h
 pub complete_end : (u : SmallUnit) (r : Asked) (end : End) → IsAnswer u r end → IsCall u r → ((input : ℕ) → end ≡ ReadFault input → ⊥) → (end ≡ WriteFault → ⊥) →
     (end ≡ Done) ⊎ (end ≡ Memory)
 complete_end u r Done h call reads writes = inl refl
+complete_end u r (Refused (Size input)) h call reads writes = absurd h
+complete_end u r (Refused (Unnamed line at rule)) h call reads writes = absurd h
 complete_end u r (Refused (NotYet input)) h call reads writes = absurd h
 complete_end u r (Refused (Call f)) h call reads writes = absurd (no_refusal u r f.rule f.first f.second h call)
 complete_end u r (Words f) h call reads writes = absurd h

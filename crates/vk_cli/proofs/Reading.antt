@@ -1,6 +1,6 @@
 -- A file that is a text of a unit is short.
-use Rattle.std.proofs.Common.{◌≡◌, ℕ, List, length, ap, sym, ◌∙◌, arith, Option, Some}
-use Rattle.vk_io.specs.Whole.{IsTooLong}
+use Rattle.std.proofs.Common.{◌≡◌, ◌≤◌, ℕ, List, length, ap, arith, Some}
+use Rattle.vk_cli.specs.Outcome.{IsTooLarge}
 use Rattle.vk_form.specs.Form.{SmallUnit}
 use Rattle.vk_form.specs.Grammar.{IsText}
 use Rattle.vk_form.proofs.Sizes.{length-text}
@@ -8,7 +8,10 @@ use Rattle.vk_form.proofs.Sizes.{length-text}
 pub some_same : {X : Type 0} (x y : X) → Some x ≡ Some y → x ≡ y
 some_same x y e = cc
 
-pub not_too_long : (file : Option (List ℕ)) (bytes : List ℕ) (u : SmallUnit) → IsTooLong file 1048576 → file ≡ Some bytes → IsText u bytes → ⊥
-not_too_long file bytes u long has text =
-    let same : long.0 ≡ bytes = some_same long.0 bytes (sym long.1 ∙ has) in
-    omega (arith, length-text u bytes text, ap length same, long.2)
+-- a file that is a text of a unit is short
+pub text_is_small : (bytes : List ℕ) (u : SmallUnit) → IsText u bytes → IsTooLarge bytes → ⊥
+text_is_small bytes u text large = omega (arith, length-text u bytes text)
+
+-- a file with this limit is not too large
+pub not_large : (read bytes : List ℕ) → read ≡ bytes → length read ≤ 1048576 → IsTooLarge bytes → ⊥
+not_large read bytes same fits large = omega (arith, ap length same)

@@ -1,5 +1,6 @@
 pub mod Answers
 pub mod Arguments
+pub mod Demangle
 pub mod Emission
 pub mod Lines
 pub mod Machine

@@ -1,9 +1,10 @@
 // How a command ends, with the status and the line on standard error of each end.
 
 ghost use Rattle.std.specs.Prelude.{◌≡◌, IfOk, string_bytes};
-ghost use Rattle.vk_cli.specs.Answers.{call_label, message_of, status_of, stop_word, word_label};
+ghost use Rattle.vk_cli.specs.Answers.{call_label, label_of_name, message_of, status_of, stop_word, word_label};
 
 use std::alloc::{AllocError, Global};
+use vk_names::NameRule;
 use vk_types::Stop;
 
 /// A rule that the words of a command line break.
@@ -51,6 +52,10 @@ pub struct CallFault {
 /// Why a command refused its input. `input` is the number of the input file among the command's, from 0.
 #[derive(Clone, Copy, PartialEq, Eq, Debug)]
 pub enum Refusal {
+    /// The input file is longer than its limit.
+    Size { input: usize },
+    /// A line, from 1, is no name: the place in it, from 0, and the rule.
+    Name { line: u32, at: u32, rule: NameRule },
     /// The unit is not of a form that is built yet.
     NotYet { input: usize },
     Call(CallFault),
@@ -113,6 +118,11 @@ impl Refusal {
         ensures { IfOk result (λ text. string_bytes text ≡ message_of file.now (End.Refused self)) }
     {
         match self {
+            Refusal::Size { .. } => format!(in alloc; "vfabi: {file}: Z1\n"),
+            Refusal::Name { line, at, rule } => {
+                let label = name_label(rule);
+                format!(in alloc; "vfabi: line {line}: {label} at {at}\n")
+            }
             Refusal::NotYet { .. } => format!(in alloc; "vfabi: {file}: X1\n"),
             Refusal::Call(fault) => {
                 let label = fault.rule.label();
@@ -147,6 +157,26 @@ impl CallRule {
             CallRule::A4 => "A4",
             CallRule::A5 => "A5",
         }
+    }
+}
+
+fn name_label(rule: NameRule) -> &'static str
+    ensures { result.now ≡ label_of_name rule }
+{
+    match rule {
+        NameRule::N1 => "N1",
+        NameRule::N2 => "N2",
+        NameRule::N3 => "N3",
+        NameRule::N4 => "N4",
+        NameRule::N5 => "N5",
+        NameRule::N6 => "N6",
+        NameRule::N7 => "N7",
+        NameRule::N8 => "N8",
+        NameRule::N9 => "N9",
+        NameRule::N10 => "N10",
+        NameRule::N11 => "N11",
+        NameRule::N12 => "N12",
+        NameRule::N13 => "N13",
     }
 }
 

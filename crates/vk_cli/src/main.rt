@@ -5,7 +5,12 @@ mod answers;
 mod arguments;
 mod call;
 mod compile;
+mod demangle;
+mod describe;
+mod input;
+mod lanes;
 mod machine;
+mod names;
 mod request;
 #[cfg(test)]
 mod tests;

@@ -1,8 +1,10 @@
 //! Whole calls, with what they write and how they end.
+mod name_files;
 mod rows;
 mod single_words;
 
 use super::*;
+use name_files::NAME_FILES;
 use rows::{CALLS, SELF};
 use single_words::WORDS;
 use std::alloc::Global;
@@ -17,15 +19,15 @@ struct Outcome {
     status: u8,
 }
 
-// A call whose store has the unit in the file `f.c`. The lists number the failing calls of the store, `out` and `err`.
+// A call whose store has the bytes in the file `f.c`. The lists number the failing calls of the store, `out` and `err`.
 fn call(
     alloc: Global,
-    unit: &str,
+    bytes: &[u8],
     words: &Words,
     failing: (&[u64], &[u64], &[u64]),
 ) -> Result<Outcome, Memory> {
     let mut store = MemStore::new(alloc, failing.0)?;
-    store.set("f.c", unit.as_bytes())?;
+    store.set("f.c", bytes)?;
     let mut out = MemSink::new(alloc, failing.1)?;
     let mut err = MemSink::new(alloc, failing.2)?;
     let end = call::vfabi(alloc, words, &mut store, &mut out, &mut err);
@@ -54,7 +56,7 @@ fn difference(
     words: &Words,
     want: (&str, &str, u8),
 ) -> Result<&'static str, Memory> {
-    let outcome = call(alloc, unit, words, (&[], &[], &[]))?;
+    let outcome = call(alloc, unit.as_bytes(), words, (&[], &[], &[]))?;
     let (out, err, status) = want;
     if outcome.status != status {
         return Ok("the status");
@@ -74,6 +76,43 @@ fn calls_answer(rt: HostRuntime) -> Result<(), Fail> {
         let words = split(rt.alloc(), text)?;
         let found = difference(rt.alloc(), unit, &words, (out, err, *status))?;
         assert_eq!(rt; found, "none", "at {text}");
+    }
+    Ok(())
+}
+
+#[test]
+fn files_of_names_are_told(rt: HostRuntime) -> Result<(), Fail> {
+    for (file, text, out, err, status) in &NAME_FILES {
+        let words = split(rt.alloc(), text)?;
+        let found = difference(rt.alloc(), file, &words, (out, err, *status))?;
+        assert_eq!(rt; found, "none", "at {file}");
+    }
+    Ok(())
+}
+
+#[test]
+fn long_files_are_refused(rt: HostRuntime) -> Result<(), Fail> {
+    for (length, text, err) in [
+        (
+            1048577,
+            "lanes --isa b f.c _ZGVbN4v_f 1",
+            "vfabi: f.c: Z1\n",
+        ),
+        (
+            1048576,
+            "lanes --isa b f.c _ZGVbN4v_f 1",
+            "vfabi: f.c: X1\n",
+        ),
+        (1048577, "demangle f.c", "vfabi: f.c: Z1\n"),
+        (1048576, "demangle f.c", "vfabi: line 1: N1 at 0\n"),
+    ] {
+        let mut bytes = Vec::new(rt.alloc());
+        bytes.resize(length, b'x')?;
+        let words = split(rt.alloc(), text)?;
+        let outcome = call(rt.alloc(), &bytes, &words, (&[], &[], &[]))?;
+        assert_eq!(rt; outcome.status, 1, "status at {length}");
+        assert!(rt; outcome.out.bytes().is_empty(), "out at {length}");
+        assert!(rt; outcome.err.bytes() == err.as_bytes(), "err at {length}");
     }
     Ok(())
 }
@@ -100,7 +139,7 @@ fn faults_are_told(rt: HostRuntime) -> Result<(), Fail> {
         (3, "lane 0: 1\nlane 1: 2\n"),
         (4, "lane 0: 1\nlane 1: 2\nlane 2: 3\n"),
     ] {
-        let outcome = call(rt.alloc(), SELF, &words, (&[], &[failing], &[]))?;
+        let outcome = call(rt.alloc(), SELF.as_bytes(), &words, (&[], &[failing], &[]))?;
         assert_eq!(rt; outcome.status, 5, "status at {failing}");
         assert!(rt; outcome.out.bytes() == lines.as_bytes(), "out at {failing}");
         assert!(rt;
@@ -108,7 +147,7 @@ fn faults_are_told(rt: HostRuntime) -> Result<(), Fail> {
             "err at {failing}"
         );
     }
-    let unread = call(rt.alloc(), SELF, &words, (&[1], &[], &[]))?;
+    let unread = call(rt.alloc(), SELF.as_bytes(), &words, (&[1], &[], &[]))?;
     assert_eq!(rt; unread.status, 4);
     assert!(rt; unread.out.bytes().is_empty());
     assert!(rt; unread.err.bytes() == b"vfabi: read fault: f.c\n".as_slice());
@@ -126,7 +165,7 @@ fn faults_of_err_change_no_answer(rt: HostRuntime) -> Result<(), Fail> {
         ("lanes --isa b f.c _ZGVbN4v_f 1", 0, 0),
     ] {
         let words = split(rt.alloc(), text)?;
-        let outcome = call(rt.alloc(), SELF, &words, (&[], &[failing], &[1]))?;
+        let outcome = call(rt.alloc(), SELF.as_bytes(), &words, (&[], &[failing], &[1]))?;
         assert_eq!(rt; outcome.status, status, "status of {text}");
         assert!(rt; outcome.err.bytes().is_empty(), "err of {text}");
     }

@@ -162,9 +162,9 @@ pub(super) static CALLS: [(&str, &str, &str, &str, u8); 80] = [
         0,
     ),
     // Words of another form.
-    (PRODUCT, "", "", "vfabi: words: P3\n", 2),
+    (PRODUCT, "", "", "vfabi: words: P1\n", 2),
     (PRODUCT, "lanes", "", "vfabi: words: P3\n", 2),
-    (PRODUCT, "frob", "", "vfabi: words: P3\n", 2),
+    (PRODUCT, "frob", "", "vfabi: words: P2\n", 2),
     (
         PRODUCT,
         "lanes --isa c f.c N 1",
@@ -185,7 +185,7 @@ pub(super) static CALLS: [(&str, &str, &str, &str, u8); 80] = [
         PRODUCT,
         "--isa b lanes f.c N 1",
         "",
-        "vfabi: words: P3\n",
+        "vfabi: words: P2\n",
         2,
     ),
     (
@@ -206,7 +206,7 @@ pub(super) static CALLS: [(&str, &str, &str, &str, u8); 80] = [
         PRODUCT,
         "frob --isa b f.c _ZGVbN4vv_f 1 1",
         "",
-        "vfabi: words: P3\n",
+        "vfabi: words: P2\n",
         2,
     ),
     (

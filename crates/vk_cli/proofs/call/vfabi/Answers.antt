@@ -1,48 +1,100 @@
 -- What holds of the answer holds of the end, unless want of memory took its place.
-use Rattle.std.proofs.Common.{sym, subst}
+use Rattle.std.proofs.Common.{[], ◌∙◌, ◌+◌, inl, inr, subst}
+use Rattle.vk_io.specs.Counts.{Rose}
 use Rattle.vk_cli.specs.declared.answers.CallRule.TheVariants.{A1, A4}
-use Rattle.vk_cli.specs.declared.answers.Refusal.TheVariants.{NotYet, Call}
-use Rattle.vk_cli.specs.declared.answers.End.TheVariants.{Done, Refused}
-use Rattle.vk_cli.specs.Outcome.{Asks}
+use Rattle.vk_cli.specs.declared.answers.Refusal.TheVariants.{Name as Unnamed, NotYet, Call}
+use Rattle.vk_cli.specs.declared.answers.End.TheVariants.{Done, Refused, Words, Memory}
+use Rattle.vk_cli.specs.Request.{Command, command_of, demangle, input_of, lanes}
+use Rattle.vk_cli.proofs.Asked.{same_command}
 use Rattle.vk_cli.proofs.Ends.{complete_end, complete_kept, formed_answer, kept, once_arguments, once_kept, once_name, refused_answer}
+use Rattle.vk_cli.proofs.Lined.{complete_names, once_line}
 use Rattle.vk_cli.proofs.call.vfabi.Goals as goal
 
-pub returns-clause-done : goal.returns-clause-done
-returns-clause-done g c tells told r bytes u asks text is =
-    c.answer-end.ensures.done tells told r bytes u (subst (λ ws. Asks ws (g.S.Store.file c.args.store.now) r bytes) (sym c.texts-texts.ensures) asks) text
+pub returns-in-Ok-clause-lanes_done : goal.returns-in-Ok-clause-lanes_done
+returns-in-Ok-clause-lanes_done g c tells told r bytes u asks text is =
+    let same = same_command (command_of c.in-Ok.request) (lanes r) _ c.args.words.now c.in-Ok.ensures.found c.texts.ensures asks.command in
+    c.answer-end.ensures.lanes_done tells told r bytes u same asks.contents text
     (kept c.report.result c.answer-end.result Done c.report.ensures.result is (λ e. cc e))
 
-pub returns-clause-prefix : goal.returns-clause-prefix
-returns-clause-prefix g c tells told r bytes u asks text =
-    c.answer-end.ensures.prefix tells told r bytes u (subst (λ ws. Asks ws (g.S.Store.file c.args.store.now) r bytes) (sym c.texts-texts.ensures) asks) text
+pub returns-in-Ok-clause-lanes_prefix : goal.returns-in-Ok-clause-lanes_prefix
+returns-in-Ok-clause-lanes_prefix g c tells told r bytes u asks text =
+    let same = same_command (command_of c.in-Ok.request) (lanes r) _ c.args.words.now c.in-Ok.ensures.found c.texts.ensures asks.command in
+    c.answer-end.ensures.lanes_prefix tells told r bytes u same asks.contents text
 
-pub returns-clause-unit_only : goal.returns-clause-unit_only
-returns-clause-unit_only g c tells r bytes u input asks text is =
-    formed_answer u r input c.answer-end.result
-    (c.answer-end.ensures.answers tells r bytes u (subst (λ ws. Asks ws (g.S.Store.file c.args.store.now) r bytes) (sym c.texts-texts.ensures) asks) text)
+pub returns-in-Ok-clause-unit_only : goal.returns-in-Ok-clause-unit_only
+returns-in-Ok-clause-unit_only g c tells r bytes u input asks text is =
+    let same = same_command (command_of c.in-Ok.request) (lanes r) _ c.args.words.now c.in-Ok.ensures.found c.texts.ensures asks.command in
+    formed_answer u r input c.answer-end.result (c.answer-end.ensures.lanes tells r bytes u same asks.contents text)
     (kept c.report.result c.answer-end.result (Refused (NotYet input)) c.report.ensures.result is (λ e. cc e))
 
-pub returns-clause-call_only : goal.returns-clause-call_only
-returns-clause-call_only g c tells r bytes u fault asks text is =
-    refused_answer u r fault c.answer-end.result
-    (c.answer-end.ensures.answers tells r bytes u (subst (λ ws. Asks ws (g.S.Store.file c.args.store.now) r bytes) (sym c.texts-texts.ensures) asks) text)
+pub returns-in-Ok-clause-call_only : goal.returns-in-Ok-clause-call_only
+returns-in-Ok-clause-call_only g c tells r bytes u fault asks text is =
+    let same = same_command (command_of c.in-Ok.request) (lanes r) _ c.args.words.now c.in-Ok.ensures.found c.texts.ensures asks.command in
+    refused_answer u r fault c.answer-end.result (c.answer-end.ensures.lanes tells r bytes u same asks.contents text)
     (kept c.report.result c.answer-end.result (Refused (Call fault)) c.report.ensures.result is (λ e. cc e))
 
-pub returns-clause-name_when : goal.returns-clause-name_when
-returns-clause-name_when g c tells r bytes u asks text other =
+pub returns-in-Ok-clause-name_when : goal.returns-in-Ok-clause-name_when
+returns-in-Ok-clause-name_when g c tells r bytes u asks text other =
+    let same = same_command (command_of c.in-Ok.request) (lanes r) _ c.args.words.now c.in-Ok.ensures.found c.texts.ensures asks.command in
     once_kept c.report.result c.answer-end.result (Refused (Call (record { rule = A1; first = 0; second = 0 }))) c.report.ensures.result
-    (once_name u r c.answer-end.result
-    (c.answer-end.ensures.answers tells r bytes u (subst (λ ws. Asks ws (g.S.Store.file c.args.store.now) r bytes) (sym c.texts-texts.ensures) asks) text) other)
+    (once_name u r c.answer-end.result (c.answer-end.ensures.lanes tells r bytes u same asks.contents text) other)
 
-pub returns-clause-arguments_when : goal.returns-clause-arguments_when
-returns-clause-arguments_when g c tells r bytes u parameter lane asks text name fault =
+pub returns-in-Ok-clause-arguments_when : goal.returns-in-Ok-clause-arguments_when
+returns-in-Ok-clause-arguments_when g c tells r bytes u parameter lane asks text name fault =
+    let same = same_command (command_of c.in-Ok.request) (lanes r) _ c.args.words.now c.in-Ok.ensures.found c.texts.ensures asks.command in
     once_kept c.report.result c.answer-end.result (Refused (Call (record { rule = A4; first = parameter; second = lane }))) c.report.ensures.result
-    (once_arguments u r c.answer-end.result parameter lane
-    (c.answer-end.ensures.answers tells r bytes u (subst (λ ws. Asks ws (g.S.Store.file c.args.store.now) r bytes) (sym c.texts-texts.ensures) asks) text) name fault)
+    (once_arguments u r c.answer-end.result parameter lane (c.answer-end.ensures.lanes tells r bytes u same asks.contents text) name fault)
 
-pub returns-clause-complete : goal.returns-clause-complete
-returns-clause-complete g c tells r bytes u asks text call reads writes =
-    let asked = subst (λ ws. Asks ws (g.S.Store.file c.args.store.now) r bytes) (sym c.texts-texts.ensures) asks in
+pub returns-in-Ok-clause-lanes_complete : goal.returns-in-Ok-clause-lanes_complete
+returns-in-Ok-clause-lanes_complete g c tells r bytes u asks text call reads writes =
+    let same = same_command (command_of c.in-Ok.request) (lanes r) _ c.args.words.now c.in-Ok.ensures.found c.texts.ensures asks.command in
     complete_kept c.report.result c.answer-end.result c.report.ensures.result
-    (complete_end u r c.answer-end.result (c.answer-end.ensures.answers tells r bytes u asked text) call
-    (λ input e. reads (c.answer-end.ensures.read_only input r e asked.request)) (λ e. writes (c.answer-end.ensures.write_only e)))
+    (complete_end u r c.answer-end.result (c.answer-end.ensures.lanes tells r bytes u same asks.contents text) call
+    (λ input e. reads (subst (λ (k : Command). Rose (g.S.Store.reads c.args.store.now (input_of k)) (g.S.Store.reads c.answer-end.new.store (input_of k))) same (c.answer-end.ensures.read_only input e)))
+    (λ e. writes (c.answer-end.ensures.write_only e)))
+
+pub returns-in-Ok-clause-line_when : goal.returns-in-Ok-clause-line_when
+returns-in-Ok-clause-line_when g c tells file bytes i at rule asks small first =
+    let same = same_command (command_of c.in-Ok.request) (demangle file) _ c.args.words.now c.in-Ok.ensures.found c.texts.ensures asks.command in
+    once_kept c.report.result c.answer-end.result (Refused (Unnamed (i + 1) at rule)) c.report.ensures.result
+    (once_line bytes c.answer-end.result i at rule (c.answer-end.ensures.names tells file bytes same asks.contents) small first)
+
+pub returns-in-Ok-clause-names_complete : goal.returns-in-Ok-clause-names_complete
+returns-in-Ok-clause-names_complete g c tells file bytes ns asks small named reads writes =
+    let same = same_command (command_of c.in-Ok.request) (demangle file) _ c.args.words.now c.in-Ok.ensures.found c.texts.ensures asks.command in
+    complete_kept c.report.result c.answer-end.result c.report.ensures.result
+    (complete_names bytes ns c.answer-end.result (c.answer-end.ensures.names tells file bytes same asks.contents) small named
+    (λ input e. reads (subst (λ (k : Command). Rose (g.S.Store.reads c.args.store.now (input_of k)) (g.S.Store.reads c.answer-end.new.store (input_of k))) same (c.answer-end.ensures.read_only input e)))
+    (λ e. writes (c.answer-end.ensures.write_only e)))
+
+pub returns-in-Ok-clause-one_message : goal.returns-in-Ok-clause-one_message
+returns-in-Ok-clause-one_message g c tells =
+    elim (c.report.ensures.one_message tells) [ inl line ↦ (c.input.result.now, c.answer-end.result, line) | inr line ↦ (c.input.result.now, Memory, line) ]
+
+pub returns-in-Err-clause-unit_when : goal.returns-in-Err-clause-unit_when
+returns-in-Err-clause-unit_when g c tells r bytes asks small none =
+    absurd (c.in-Err.ensures.fault.none (lanes r) (c.texts.ensures ∙ asks.command))
+
+pub returns-in-Err-clause-name_when : goal.returns-in-Err-clause-name_when
+returns-in-Err-clause-name_when g c tells r bytes u asks text other =
+    absurd (c.in-Err.ensures.fault.none (lanes r) (c.texts.ensures ∙ asks.command))
+
+pub returns-in-Err-clause-arguments_when : goal.returns-in-Err-clause-arguments_when
+returns-in-Err-clause-arguments_when g c tells r bytes u parameter lane asks text name fault =
+    absurd (c.in-Err.ensures.fault.none (lanes r) (c.texts.ensures ∙ asks.command))
+
+pub returns-in-Err-clause-lanes_complete : goal.returns-in-Err-clause-lanes_complete
+returns-in-Err-clause-lanes_complete g c tells r bytes u asks text call reads writes =
+    absurd (c.in-Err.ensures.fault.none (lanes r) (c.texts.ensures ∙ asks.command))
+
+pub returns-in-Err-clause-line_when : goal.returns-in-Err-clause-line_when
+returns-in-Err-clause-line_when g c tells file bytes i at rule asks small first =
+    absurd (c.in-Err.ensures.fault.none (demangle file) (c.texts.ensures ∙ asks.command))
+
+pub returns-in-Err-clause-names_complete : goal.returns-in-Err-clause-names_complete
+returns-in-Err-clause-names_complete g c tells file bytes ns asks small named reads writes =
+    absurd (c.in-Err.ensures.fault.none (demangle file) (c.texts.ensures ∙ asks.command))
+
+pub returns-in-Err-clause-one_message : goal.returns-in-Err-clause-one_message
+returns-in-Err-clause-one_message g c tells =
+    elim (c.report-in-Err.ensures.one_message tells) [ inl line ↦ ([], Words (record { rule = c.in-Err.rule }), line) | inr line ↦ ([], Memory, line) ]

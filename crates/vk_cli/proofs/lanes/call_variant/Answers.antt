@@ -9,7 +9,7 @@ use Rattle.vk_cli.specs.Arguments.{IsFault}
 use Rattle.vk_cli.specs.Machine.{column}
 use Rattle.vk_cli.specs.Meaning.{result_of}
 use Rattle.vk_cli.proofs.Printed.{lines_same}
-use Rattle.vk_cli.proofs.call.call_variant.Goals as goal
+use Rattle.vk_cli.proofs.lanes.call_variant.Goals as goal
 
 pub returns-clause-call : goal.returns-clause-call
 returns-clause-call c =
@@ -17,7 +17,7 @@ returns-clause-call c =
     let count : c.len.result ≡ length c.args.form.now.parameters.items = search rules in
     record {
       name = sym (c.is_same.ensures.0 same ∙ c.as_bytes.ensures.value) ∙ c.deref.ensures.value ∙ c.in_ok-name.ensures;
-      arguments = λ parameter lane fault. c.in-Ok.ensures.arguments parameter lane (subst (λ n. IsFault (map string_bytes c.args.request.arguments.now) n parameter lane) (sym count) fault);
+      arguments = λ parameter lane fault. c.in-Ok.ensures.arguments parameter lane (subst (λ n. IsFault (map string_bytes c.args.call.arguments.now) n parameter lane) (sym count) fault);
     }
 
 pub returns-clause-lines : goal.returns-clause-lines

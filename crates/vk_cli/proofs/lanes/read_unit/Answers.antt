@@ -1,11 +1,8 @@
 -- A text of a unit is read, and as that unit.
 use Rattle.std.proofs.Common.{◌≡◌, ap, sym, ◌∙◌, subst, Err}
 use Rattle.vk_form.specs.Grammar.{IsText}
-use Rattle.vk_cli.proofs.Reading.{not_too_long, some_same}
-use Rattle.vk_cli.proofs.call.read_unit.Goals as goal
-
-pub returns-in-Err-Size-clause-refused : goal.returns-in-Err-Size-clause-refused
-returns-in-Err-Size-clause-refused g c tells bytes u has text is = not_too_long _ bytes u (c.in-Err-Size.ensures.size tells (ap Err c.in-Err-Size.field-0-is)) has text
+use Rattle.vk_cli.proofs.Reading.{some_same}
+use Rattle.vk_cli.proofs.lanes.read_unit.Goals as goal
 
 pub returns-in-Ok-read_form-clause-only : goal.returns-in-Ok-read_form-clause-only
 returns-in-Ok-read_form-clause-only g c tells bytes u has text =

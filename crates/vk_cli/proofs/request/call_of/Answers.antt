@@ -1,7 +1,7 @@
 -- The first three words are those of the command, and the others the request.
 use Rattle.std.proofs.Common.{◌≡◌, codes, rules, string_bytes, sym, ◌∙◌}
 use Rattle.vk_cli.proofs.Five.{map_five, five_same}
-use Rattle.vk_cli.proofs.request.request_of.Goals as goal
+use Rattle.vk_cli.proofs.request.call_of.Goals as goal
 
 pub returns-in-len5-up-clause-found : goal.returns-in-len5-up-clause-found
 returns-in-len5-up-clause-found c =
