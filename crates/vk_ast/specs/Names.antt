@@ -1,13 +1,20 @@
--- Tables of names: lists of different texts, each by its place.
-use Rattle.std.specs.Prelude.{◌≡◌, ℕ, ◌<◌, List, [], ◌∷◌, ◌++◌, map, length, slice_get, Option, Some, Contains, ◌⊎◌}
+-- Tables of names: lists of different texts, each known by its place.
+use Rattle.std.specs.Prelude.{◌≡◌, ℕ, List, [], ◌∷◌, ◌++◌, map, slice_get, Some, ◌⊎◌}
 use Rattle.std.specs.Global.{Vec}
 use Rattle.indexmap.specs.IndexSet.{IndexSet}
 
 abbrev pub texts_of : {S : Type 0} → IndexSet (Vec ℕ) S → List (List ℕ)
 texts_of set = map (λ v. v.items) set.keys
 
--- the table after a text was added, and the text's number: it was there and the table stays, or it goes last
+-- a text has one number
+abbrev pub AreDistinct : List (List ℕ) → Type 0
+AreDistinct texts = (j k : ℕ) (text : List ℕ) → slice_get texts j ≡ Some text → slice_get texts k ≡ Some text → j ≡ k
+
+-- the table after a text was added, and the text's number
 pub record IsAdded (old new : List (List ℕ)) (text : List ℕ) (id : ℕ) : Type 0 where
   pub has : slice_get new id ≡ Some text
-  pub stays : Contains old text → new ≡ old
-  pub goes_last : (Contains old text → ⊥) → new ≡ old ++ text ∷ []
+  -- all numbers keep their texts
+  pub keeps : (k : ℕ) (t : List ℕ) → slice_get old k ≡ Some t → slice_get new k ≡ Some t
+  -- at most this text is new
+  pub grows : (new ≡ old) ⊎ (new ≡ old ++ text ∷ [])
+  pub distinct : AreDistinct new

@@ -8,15 +8,10 @@ pub mod directives;
 pub mod expressions;
 pub mod items;
 pub mod names;
-
 pub mod statements;
 
 pub use directives::{Clause, ClauseKind, Directive, Modifier};
 pub use expressions::{BinOp, Expr, ExprKind, UnOp};
 pub use items::{Function, Item, Object, ParamDecl, Unit};
 pub use names::{Memory, NameId, NameTable};
-
 pub use statements::{Stmt, StmtKind};
-
-
-

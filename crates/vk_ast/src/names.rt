@@ -1,7 +1,7 @@
 // The table of names.
 
 ghost use Rattle.std.specs.Prelude.{◌≡◌, ℕ, ◌<◌, List, [], ◌∷◌, ◌++◌, map, length, slice_get, Some, Contains, IfOk, IsErr, OnErr};
-ghost use Rattle.vk_ast.specs.Names.{texts_of, IsAdded};
+ghost use Rattle.vk_ast.specs.Names.{texts_of, IsAdded, AreDistinct};
 ghost use Rattle.indexmap.specs.IndexSet.{IsUnique};
 
 use indexmap::IndexSet;
@@ -54,7 +54,8 @@ impl NameTable {
 
     /// The number of names.
     pub fn len(&self) -> usize
-        ensures { result ≡ length self.now }
+        ensures length { result ≡ length self.now }
+        ensures distinct { AreDistinct self.now }
     {
         self.texts.len()
     }
@@ -66,13 +67,13 @@ impl NameTable {
         ensures added { IfOk result (λ id. IsAdded self.old self.new text.now id.0) }
         ensures same { OnErr result (self.new ≡ self.old) }
     {
+        let _count = self.texts.len();
         if let Some(at) = self.texts.get_index_of(text) {
             return Ok(NameId(at as u32));
         }
-        let at = self.texts.len();
         let mut name = Vec::new(self.alloc);
         name.extend_from_slice(text)?;
-        self.texts.insert(name)?;
+        let (at, _) = self.texts.insert_full(name)?;
         Ok(NameId(at as u32))
     }
 
