@@ -1,0 +1,6 @@
+//! The tokens of a unit of C.
+#![tactic(auto)]
+
+pub mod characters;
+
+pub use vk_tokens::{Mark, Token, TokenKind, Tokens, UnitFail, UnitRule};
