@@ -1,5 +1,6 @@
 -- Punctuators (C17 6.4.6): each token is the longest one that the text begins with (C17 6.4).
-use Rattle.std.specs.Prelude.{ℕ, ◌==◌, Bool, true, false, ◌&&◌, List, [], ◌∷◌, codes, Option, Some, None, if◌then◌else◌}
+use Rattle.std.specs.Prelude.{ℕ, nat_eq, List, [], ◌∷◌, codes, Option, Some, None, if◌then◌else◌}
+use Rattle.std.specs.List.{starts_with}
 use Rattle.vk_tokens.specs.declared.tokens.Mark.{Mark}
 use Rattle.vk_tokens.specs.declared.tokens.Mark.TheVariants.{OpenParen, CloseParen, OpenBracket, CloseBracket, OpenBrace, CloseBrace, Semicolon, Comma, Question, Colon, Assign, AddAssign, SubAssign, MulAssign, DivAssign, RemAssign, AndAssign, OrAssign, XorAssign, ShlAssign, ShrAssign, Increment, Decrement, Plus, Minus, Star, Slash, Percent, Ampersand, Bar, Caret, Tilde, Bang, ShiftLeft, ShiftRight, EqualEqual, NotEqual, Less, Greater, LessEqual, GreaterEqual, AndAnd, OrOr}
 
@@ -56,15 +57,9 @@ marks = ShlAssign ∷ ShrAssign
     ∷ OpenParen ∷ CloseParen ∷ OpenBracket ∷ CloseBracket ∷ OpenBrace ∷ CloseBrace ∷ Semicolon ∷ Comma ∷ Question ∷ Colon
     ∷ Assign ∷ Plus ∷ Minus ∷ Star ∷ Slash ∷ Percent ∷ Ampersand ∷ Bar ∷ Caret ∷ Tilde ∷ Bang ∷ Less ∷ Greater ∷ []
 
--- whether a text begins with another
-abbrev pub is_front : (front text : List ℕ) → Bool
-is_front [] text = true
-is_front (b ∷ bs) [] = false
-is_front (b ∷ bs) (c ∷ cs) = (b == c) && is_front bs cs
-
 abbrev pub first_front : List Mark → List ℕ → Option Mark
 first_front [] text = None
-first_front (m ∷ ms) text = if is_front (mark_text m) text then Some m else first_front ms text
+first_front (m ∷ ms) text = if starts_with nat_eq text (mark_text m) then Some m else first_front ms text
 
 -- the longest punctuator with which the text begins
 unfoldable pub sign_at : List ℕ → Option Mark

@@ -2,5 +2,7 @@
 #![tactic(auto)]
 
 pub mod characters;
+pub mod comments;
+pub mod signs;
 
 pub use vk_tokens::{Mark, Token, TokenKind, Tokens, UnitFail, UnitRule};
