@@ -1,10 +1,14 @@
 -- Numbers: integer literals with their types (C17 6.4.4.1), and where a floating literal begins (C17 6.4.4.2).
 use Rattle.std.specs.Prelude.{ℕ, ◌+◌, ◌-◌, ◌*◌, ◌^◌, ◌==◌, nat_lt, Bool, true, false, ◌&&◌, ◌||◌, not, List, [], ◌∷◌, drop, codes, Option, Some, None, Result, Ok, Err, if◌then◌else◌}
 use Rattle.std.specs.Char.{is_ascii_digit, is_ascii_hexdigit}
+use Rattle.std.specs.Int.{is_in_range}
 use Rattle.vk_types.specs.declared.types.Ty.{Ty}
 use Rattle.vk_types.specs.declared.types.Ty.TheVariants.{I8, I16, I32, I64, U8, U16, U32, U64}
 use Rattle.vk_tokens.specs.declared.rules.UnitRule.{UnitRule}
 use Rattle.vk_tokens.specs.declared.rules.UnitRule.TheVariants.{C1, C3}
+use Rattle.vk_lex.specs.declared.literals.Base.{Base}
+use Rattle.vk_lex.specs.declared.literals.Base.TheVariants.{Decimal, Octal, Hexadecimal}
+use Rattle.vk_lex.specs.declared.literals.Suffix.{Suffix}
 use Rattle.vk_lex.specs.Characters.{is_word_byte, run, after}
 use Rattle.vk_lex.specs.Comments.{begins_with}
 
@@ -62,34 +66,28 @@ begins_floating text = begins_decimal_floating text || begins_hex_floating text
 
 -- ---- integer literals
 
-pub data Base : Type 0 where
-  decimal octal hexadecimal : Base
-
+-- ten, eight or sixteen
 abbrev pub radix : Base → ℕ
-radix decimal = 10
-radix octal = 8
-radix hexadecimal = 16
+radix Decimal = 10
+radix Octal = 8
+radix Hexadecimal = 16
 
 abbrev pub is_octal_digit : ℕ → Bool
 is_octal_digit c = is_ascii_digit c && nat_lt c 56
 
 abbrev pub is_digit_of : Base → ℕ → Bool
-is_digit_of decimal c = is_ascii_digit c
-is_digit_of octal c = is_octal_digit c
-is_digit_of hexadecimal c = is_ascii_hexdigit c
+is_digit_of Decimal c = is_ascii_digit c
+is_digit_of Octal c = is_octal_digit c
+is_digit_of Hexadecimal c = is_ascii_hexdigit c
 
 -- the number of a digit
 abbrev pub digit_value : ℕ → ℕ
-digit_value c = if nat_lt c 58 then c - 48 else if nat_lt c 71 then c - 55 else c - 87
+digit_value c = if is_ascii_digit c then c - 48 else if is_in_range 65 70 c then c - 55 else if is_in_range 97 102 c then c - 87 else 0
 
--- the number of digits that follow the number n
+-- the number that is written by the digits of n and these behind them
 abbrev pub value_after : ℕ → Base → List ℕ → ℕ
 value_after n b [] = n
 value_after n b (c ∷ cs) = value_after (n * radix b + digit_value c) b cs
-
-pub record Suffix : Type 0 where
-  pub unsigned : Bool
-  pub long : Bool
 
 -- the text begins with `u` or `U`
 abbrev pub begins_unsigned : List ℕ → Bool
@@ -121,9 +119,9 @@ suffix_of text =
 
 -- the types of the list for a form, first ones first; `long long` is `long`
 abbrev pub signed_types : Base → (long : Bool) → List Ty
-signed_types decimal l = if l then I64 ∷ [] else I32 ∷ I64 ∷ []
-signed_types octal l = if l then I64 ∷ U64 ∷ [] else I32 ∷ U32 ∷ I64 ∷ U64 ∷ []
-signed_types hexadecimal l = if l then I64 ∷ U64 ∷ [] else I32 ∷ U32 ∷ I64 ∷ U64 ∷ []
+signed_types Decimal l = if l then I64 ∷ [] else I32 ∷ I64 ∷ []
+signed_types Octal l = if l then I64 ∷ U64 ∷ [] else I32 ∷ U32 ∷ I64 ∷ U64 ∷ []
+signed_types Hexadecimal l = if l then I64 ∷ U64 ∷ [] else I32 ∷ U32 ∷ I64 ∷ U64 ∷ []
 
 abbrev pub types_for : Base → Suffix → List Ty
 types_for b s = if s.unsigned then (if s.long then U64 ∷ [] else U32 ∷ U64 ∷ []) else signed_types b s.long
@@ -150,13 +148,13 @@ begins_digit_of b (c ∷ cs) = is_digit_of b c
 
 -- `0x` before a hexadecimal digit, else a `0` of octal, else decimal
 abbrev pub base_of : List ℕ → Base
-base_of text = if begins_hex text && begins_digit_of hexadecimal (drop 2 text) then hexadecimal else if begins_with 48 text then octal else decimal
+base_of text = if begins_hex text && begins_digit_of Hexadecimal (drop 2 text) then Hexadecimal else if begins_with 48 text then Octal else Decimal
 
 -- the text without the `0x`
 abbrev pub body_of : Base → List ℕ → List ℕ
-body_of decimal text = text
-body_of octal text = text
-body_of hexadecimal text = drop 2 text
+body_of Decimal text = text
+body_of Octal text = text
+body_of Hexadecimal text = drop 2 text
 
 abbrev pub value_in : Base → List ℕ → ℕ
 value_in b text = value_after 0 b (run (is_digit_of b) text)

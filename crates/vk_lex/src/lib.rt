@@ -3,6 +3,7 @@
 
 pub mod characters;
 pub mod comments;
+pub mod literals;
 pub mod signs;
 
 pub use vk_tokens::{Mark, Token, TokenKind, Tokens, UnitFail, UnitRule};
