@@ -1,2 +1,3 @@
 mod Gaps
 mod Values
+mod Words

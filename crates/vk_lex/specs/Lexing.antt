@@ -10,7 +10,9 @@ use Rattle.vk_lex.specs.Comments.{after_comment, is_open_comment}
 use Rattle.vk_lex.specs.Headings.{Heading}
 use Rattle.vk_lex.specs.Literals.{begins_floating, literal}
 use Rattle.vk_lex.specs.Signs.{mark_text, sign_at}
-use Rattle.vk_lex.specs.Tokens.{Kind, Tok, Mode, word, integer, sign, line_end, start, inside, directive, idle}
+use Rattle.vk_lex.specs.Tokens.{Kind, Tok, word, integer, sign, line_end}
+use Rattle.vk_lex.specs.declared.pieces.Mode.{Mode}
+use Rattle.vk_lex.specs.declared.pieces.Mode.TheVariants.{Start, Inside, Directive, Idle}
 
 -- the words of floating types
 pub data IsFloatingWord : List ℕ → Type 0 where
@@ -57,33 +59,33 @@ pub data IsNoToken : (text : List ℕ) → UnitRule → Type 0 where
 
 -- how a line goes on behind a token
 abbrev pub going : Mode → Mode
-going start = inside
-going inside = inside
-going directive = directive
-going idle = idle
+going Start = Inside
+going Inside = Inside
+going Directive = Directive
+going Idle = Idle
 
 -- what the end of a line gives
 abbrev pub ended : Mode → Option Kind
-ended start = None
-ended inside = None
-ended directive = Some line_end
-ended idle = None
+ended Start = None
+ended Inside = None
+ended Directive = Some line_end
+ended Idle = None
 
 -- The first piece of a text that stands so in its line: what it gives, how the line goes on, and what follows.
 pub data Piece : Mode → (text : List ℕ) → Option Kind → Mode → (rest : List ℕ) → Type 0 where
   a_blank : {m : Mode} {c : ℕ} {cs : List ℕ} → is_blank c ≡ true → Piece m (c ∷ cs) None m cs
-  a_newline : {m : Mode} {cs : List ℕ} → Piece m (10 ∷ cs) (ended m) start cs
+  a_newline : {m : Mode} {cs : List ℕ} → Piece m (10 ∷ cs) (ended m) Start cs
   a_comment : {m : Mode} {text rest : List ℕ} → after_comment text ≡ Some rest → Piece m text None m rest
-  a_heading : {cs rest : List ℕ} {k : Option Kind} {n : Mode} → Heading cs k n rest → Piece start (35 ∷ cs) k n rest
-  a_token : {m : Mode} {text rest : List ℕ} {k : Kind} → m ≢ idle → IsToken text k rest → Piece m text (Some k) (going m) rest
-  an_idle_byte : {c : ℕ} {cs : List ℕ} → is_blank c ≡ false → c ≢ 10 → IsPlain (c ∷ cs) → Piece idle (c ∷ cs) None idle cs
+  a_heading : {cs rest : List ℕ} {k : Option Kind} {n : Mode} → Heading cs k n rest → Piece Start (35 ∷ cs) k n rest
+  a_token : {m : Mode} {text rest : List ℕ} {k : Kind} → m ≢ Idle → IsToken text k rest → Piece m text (Some k) (going m) rest
+  an_idle_byte : {c : ℕ} {cs : List ℕ} → is_blank c ≡ false → c ≢ 10 → IsPlain (c ∷ cs) → Piece Idle (c ∷ cs) None Idle cs
 
 -- No piece begins the text: the greatest rule that is broken there.
 pub data IsFault : Mode → (text : List ℕ) → UnitRule → Type 0 where
   open_comment : {m : Mode} {text : List ℕ} → is_open_comment text ≡ true → IsFault m text C1
-  late_hash : {m : Mode} {cs : List ℕ} → m ≢ start → m ≢ idle → IsFault m (35 ∷ cs) C1
-  no_heading : {cs : List ℕ} → ((k : Option Kind) (n : Mode) (rest : List ℕ) → Heading cs k n rest → ⊥) → IsFault start (35 ∷ cs) C4
-  no_token : {m : Mode} {text : List ℕ} {r : UnitRule} → m ≢ idle → IsNoToken text r → IsFault m text r
+  late_hash : {m : Mode} {cs : List ℕ} → m ≢ Start → m ≢ Idle → IsFault m (35 ∷ cs) C1
+  no_heading : {cs : List ℕ} → ((k : Option Kind) (n : Mode) (rest : List ℕ) → Heading cs k n rest → ⊥) → IsFault Start (35 ∷ cs) C4
+  no_token : {m : Mode} {text : List ℕ} {r : UnitRule} → m ≢ Idle → IsNoToken text r → IsFault m text r
 
 -- ---- texts
 
@@ -105,7 +107,7 @@ module _ (line : ℕ → ℕ) where
 
 -- the bytes of a unit have these tokens, or this first fault
 abbrev pub Lexes : List ℕ → List Tok → Type 0
-Lexes bytes ts = Reads (line_of bytes) start (text_of bytes) ts
+Lexes bytes ts = Reads (line_of bytes) Start (text_of bytes) ts
 
 abbrev pub Refuses : List ℕ → (line : ℕ) → UnitRule → Type 0
-Refuses bytes l r = Fails (line_of bytes) start (text_of bytes) l r
+Refuses bytes l r = Fails (line_of bytes) Start (text_of bytes) l r

@@ -2,6 +2,8 @@
 use Rattle.std.specs.Prelude.{◌≡◌, ℕ, ◌<◌, List, [], ◌∷◌, ◌++◌, map, length, slice_get, Option, Some, None}
 use Rattle.std.specs.Option.{unwrap_or}
 use Rattle.vk_types.specs.declared.types.Ty.{Ty}
+use Rattle.vk_lex.specs.declared.pieces.Found.{Found}
+use Rattle.vk_lex.specs.declared.pieces.Found.TheVariants.{Word, Int as FoundInt, Sign as FoundSign, Simdfn as FoundSimdfn, Simd as FoundSimd, LineEnd as FoundLineEnd}
 use Rattle.vk_ast.specs.declared.names.NameId.{NameId}
 use Rattle.vk_tokens.specs.declared.tokens.Mark.{Mark}
 use Rattle.vk_tokens.specs.declared.tokens.Token.{Token}
@@ -20,10 +22,14 @@ pub record Tok : Type 0 where
   pub line : ℕ
   pub kind : Kind
 
--- where a text stands in its line: only blanks and comments are before it; other tokens are; in a line with a directive;
--- in a `#pragma` line that says nothing here
-pub data Mode : Type 0 where
-  start inside directive idle : Mode
+-- what the code found, the same
+abbrev pub found_kind : Found → Kind
+found_kind (Word text) = word text.now
+found_kind (FoundInt t n) = integer t n
+found_kind (FoundSign m) = sign m
+found_kind FoundSimdfn = simdfn
+found_kind FoundSimd = simd
+found_kind FoundLineEnd = line_end
 
 -- ---- what the tokens of a unit are, by their table of names
 

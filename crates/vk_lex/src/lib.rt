@@ -3,7 +3,9 @@
 
 pub mod characters;
 pub mod comments;
+pub mod headings;
 pub mod literals;
+pub mod pieces;
 pub mod signs;
 
 pub use vk_tokens::{Mark, Token, TokenKind, Tokens, UnitFail, UnitRule};
