@@ -1,3 +1,4 @@
 mod Gaps
+mod Fronts
 mod Values
 mod Words

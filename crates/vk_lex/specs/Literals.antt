@@ -22,6 +22,10 @@ abbrev pub begins_digit : List ℕ → Bool
 begins_digit [] = false
 begins_digit (c ∷ cs) = is_ascii_digit c
 
+-- a point before a digit, with which all other floating literals begin
+abbrev pub begins_fraction : List ℕ → Bool
+begins_fraction text = begins_with 46 text && begins_digit (drop 1 text)
+
 -- what follows a sign, where there is one
 abbrev pub after_sign : List ℕ → List ℕ
 after_sign [] = []
@@ -38,11 +42,9 @@ begins_hex [] = false
 begins_hex (c ∷ []) = false
 begins_hex (c ∷ d ∷ cs) = (c == 48) && ((d == 120) || (d == 88))
 
--- digits and then a point or an exponent, or a point and a digit
+-- digits, and a point or an exponent behind them
 abbrev pub begins_decimal_floating : List ℕ → Bool
-begins_decimal_floating text =
-    (begins_digit text && (begins_with 46 (after is_ascii_digit text) || begins_exponent 69 101 (after is_ascii_digit text)))
-    || (begins_with 46 text && begins_digit (drop 1 text))
+begins_decimal_floating text = begins_with 46 (after is_ascii_digit text) || begins_exponent 69 101 (after is_ascii_digit text)
 
 -- what follows hexadecimal digits with at most one point among them, of which there is at least one digit
 abbrev pub after_hex_digits : List ℕ → Option (List ℕ)
@@ -60,7 +62,7 @@ some_exponent (Some rest) = begins_exponent 80 112 rest
 abbrev pub begins_hex_floating : List ℕ → Bool
 begins_hex_floating text = begins_hex text && some_exponent (after_hex_digits (drop 2 text))
 
--- Each floating literal begins with one of these, and each of them is one.
+-- Each floating literal that begins with a digit begins with one of these, and each of them is one.
 unfoldable pub begins_floating : List ℕ → Bool
 begins_floating text = begins_decimal_floating text || begins_hex_floating text
 

@@ -59,8 +59,8 @@ pub(crate) fn is_open_comment(text: &[u8]) -> bool
     }
 }
 
-// Whether the text begins with a blank.
-fn begins_blank(text: &[u8]) -> bool
+/// Whether the text begins with a blank.
+pub(crate) fn begins_blank(text: &[u8]) -> bool
     ensures blank { result ≡ begins_blank text.now }
     ensures some { IsTrue result → 1 ≤ length text.now }
 {

@@ -5,7 +5,7 @@ ghost use Rattle.std.specs.Char.{is_ascii_digit, is_ascii_hexdigit};
 ghost use Rattle.std.specs.List.{prefix_len};
 ghost use Rattle.std.specs.Option.{option_map};
 ghost use Rattle.vk_lex.specs.Characters.{after, run};
-ghost use Rattle.vk_lex.specs.Literals.{begins_digit, after_sign, begins_exponent, begins_hex, begins_decimal_floating, after_hex_digits, begins_hex_floating, begins_floating, is_digit_of, digit_value, radix, begins_unsigned, long_len, suffix_of, types_for, value_after, limit, first_type, base_of, body_of, literal_in, literal};
+ghost use Rattle.vk_lex.specs.Literals.{begins_digit, after_sign, begins_exponent, begins_hex, begins_fraction, begins_decimal_floating, after_hex_digits, begins_hex_floating, begins_floating, is_digit_of, digit_value, radix, begins_unsigned, long_len, suffix_of, types_for, value_after, limit, first_type, base_of, body_of, literal_in, literal};
 ghost use Rattle.vk_lex.specs.declared.literals.Base.TheVariants.{Hexadecimal};
 
 use crate::comments::begins_with;
@@ -77,18 +77,22 @@ fn begins_hex(text: &[u8]) -> bool
     matches!(text, [b'0', b'x' | b'X', ..])
 }
 
-// Whether a floating literal of decimal digits begins the text.
-fn begins_decimal_floating(text: &[u8]) -> bool
-    ensures { result ≡ begins_decimal_floating text.now }
+/// Whether a point before a digit begins the text.
+pub(crate) fn begins_fraction(text: &[u8]) -> bool
+    ensures { result ≡ begins_fraction text.now }
 {
     match text {
         [b'.', rest @ ..] => begins_digit(rest),
-        [c, ..] if c.is_ascii_digit() => {
-            let (_, rest) = text.split_at(decimal_len(text));
-            begins_with(b'.', rest) || begins_exponent(b'E', b'e', rest)
-        }
         _ => false,
     }
+}
+
+// Whether digits begin the text, with a point or an exponent behind them.
+fn begins_decimal_floating(text: &[u8]) -> bool
+    ensures { result ≡ begins_decimal_floating text.now }
+{
+    let (_, rest) = text.split_at(decimal_len(text));
+    begins_with(b'.', rest) || begins_exponent(b'E', b'e', rest)
 }
 
 // What follows hexadecimal digits with at most one point among them, of which there is at least one digit.
@@ -119,7 +123,7 @@ fn begins_hex_floating(text: &[u8]) -> bool
     }
 }
 
-/// Whether a floating literal begins the text.
+/// Whether a floating literal begins the text, which begins with a digit.
 #[tactic(auto, unfolding(crate::specs::Literals::begins_floating))]
 pub(crate) fn begins_floating(text: &[u8]) -> bool
     ensures { result ≡ begins_floating text.now }
