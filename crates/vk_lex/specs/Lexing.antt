@@ -94,7 +94,7 @@ pub data IsPiece : Mode → (text : List ℕ) → Option Kind → Mode → (rest
   a_comment : {m : Mode} {text rest : List ℕ} → after_comment text ≡ Some rest → IsPiece m text None m rest
   a_heading : {cs rest : List ℕ} {k : Option Kind} {n : Mode} → Heading cs k n rest → IsPiece Start (35 ∷ cs) k n rest
   a_token : {m : Mode} {text rest : List ℕ} {k : Kind} → m ≢ Idle → IsToken text k rest → IsPiece m text (Some k) (going m) rest
-  an_idle_byte : {c : ℕ} {cs : List ℕ} → is_blank c ≡ false → c ≢ 10 → IsPlain (c ∷ cs) → IsPiece Idle (c ∷ cs) None Idle cs
+  an_idle_byte : {c : ℕ} {cs : List ℕ} → c ≢ 10 → IsPlain (c ∷ cs) → IsPiece Idle (c ∷ cs) None Idle cs
 
 -- No piece begins the text: the greatest rule that is broken there.
 pub data IsFault : Mode → (text : List ℕ) → UnitRule → Type 0 where

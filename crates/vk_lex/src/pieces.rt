@@ -1,6 +1,7 @@
 // The pieces of a text.
 
-ghost use Rattle.std.specs.Prelude.{◌≡◌, ◌≤◌, length, IfOk, IfErr, true, false};
+ghost use Rattle.std.specs.Prelude.{◌≡◌, ◌≢◌, ◌≤◌, ◌∷◌, length, IfOk, IfErr, true, false};
+ghost use Rattle.vk_lex.specs.declared.pieces.Mode.TheVariants.{Idle, Start};
 ghost use Rattle.std.specs.List.{prefix_len};
 ghost use Rattle.std.specs.Option.{option_map};
 ghost use Rattle.std.specs.Char.{is_ascii_digit};
@@ -155,5 +156,116 @@ fn going(mode: Mode) -> Mode
         Mode::Start | Mode::Inside => Mode::Inside,
         Mode::Directive => Mode::Directive,
         Mode::Idle => Mode::Idle,
+    }
+}
+
+// Whether the mode is that of a line that adds nothing.
+fn is_idle(mode: Mode) -> bool
+    ensures idle { result ≡ true → mode ≡ Idle }
+    ensures other { result ≡ false → mode ≢ Idle }
+{
+    match mode {
+        Mode::Idle => true,
+        Mode::Start | Mode::Inside | Mode::Directive => false,
+    }
+}
+
+// Whether the mode is that of a line's start.
+fn is_start(mode: Mode) -> bool
+    ensures start { result ≡ true → mode ≡ Start }
+    ensures other { result ≡ false → mode ≢ Start }
+{
+    match mode {
+        Mode::Start => true,
+        Mode::Inside | Mode::Directive | Mode::Idle => false,
+    }
+}
+
+// What a line says that begins with `#`, behind which the rest stands.
+fn hash(mode: Mode, rest: &[u8]) -> Result<Piece<'_>, UnitRule>
+    requires { mode ≢ Idle }
+    ensures piece { IfOk result (λ p. IsPiece mode (35 ∷ rest.now) (option_map found_kind p.found) p.mode p.rest.now) }
+    ensures fault { IfErr result (λ r. IsFault mode (35 ∷ rest.now) r) }
+{
+    if !is_start(mode) {
+        return Err(UnitRule::C1);
+    }
+    match heading(rest) {
+        Some(line) => Ok(Piece {
+            found: line.found,
+            mode: line.mode,
+            rest: line.rest,
+        }),
+        None => Err(UnitRule::C4),
+    }
+}
+
+// The first piece of a text that begins with no comment, no newline and no `#`, in a line that is not idle.
+fn token_piece(mode: Mode, text: &[u8]) -> Result<Piece<'_>, UnitRule>
+    requires mode { mode ≢ Idle }
+    requires begins { BeginsToken text.now }
+    requires plain { IsPlain text.now }
+    ensures piece { IfOk result (λ p. IsPiece mode text.now (option_map found_kind p.found) p.mode p.rest.now) }
+    ensures fault { IfErr result (λ r. IsFault mode text.now r) }
+{
+    match token(text) {
+        Ok((found, rest)) => Ok(Piece {
+            found: Some(found),
+            mode: going(mode),
+            rest,
+        }),
+        Err(rule) => Err(rule),
+    }
+}
+
+// The first piece of a text that begins with no comment.
+fn plain_piece(mode: Mode, text: &[u8]) -> Result<Piece<'_>, UnitRule>
+    requires some { 1 ≤ length text.now }
+    requires plain { IsPlain text.now }
+    ensures piece { IfOk result (λ p. IsPiece mode text.now (option_map found_kind p.found) p.mode p.rest.now) }
+    ensures fault { IfErr result (λ r. IsFault mode text.now r) }
+{
+    let (_, rest) = text.split_at(1);
+    if begins_with(b'\n', text) {
+        Ok(Piece {
+            found: ended(mode),
+            mode: Mode::Start,
+            rest,
+        })
+    } else if begins_blank(text) {
+        Ok(Piece {
+            found: None,
+            mode,
+            rest,
+        })
+    } else if is_idle(mode) {
+        Ok(Piece {
+            found: None,
+            mode: Mode::Idle,
+            rest,
+        })
+    } else if begins_with(b'#', text) {
+        hash(mode, rest)
+    } else {
+        token_piece(mode, text)
+    }
+}
+
+/// The first piece of a text that stands so in its line, or the rule that is broken where it begins.
+pub(crate) fn first_piece(mode: Mode, text: &[u8]) -> Result<Piece<'_>, UnitRule>
+    requires { 1 ≤ length text.now }
+    ensures piece { IfOk result (λ p. IsPiece mode text.now (option_map found_kind p.found) p.mode p.rest.now) }
+    ensures fault { IfErr result (λ r. IsFault mode text.now r) }
+{
+    if is_open_comment(text) {
+        return Err(UnitRule::C1);
+    }
+    match after_comment(text) {
+        Some(rest) => Ok(Piece {
+            found: None,
+            mode,
+            rest,
+        }),
+        None => plain_piece(mode, text),
     }
 }
