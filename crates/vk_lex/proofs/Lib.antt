@@ -1,4 +1,5 @@
 mod Gaps
 mod Fronts
+mod Steps
 mod Values
 mod Words

@@ -1,5 +1,5 @@
 -- Words behind gaps.
-use Rattle.std.proofs.Common.{◌≡◌, ℕ, List, [], ◌∷◌, codes, ◌==◌, get_or, Option, refl, sym, ap, subst, ◌∙◌}
+use Rattle.std.proofs.Common.{◌≡◌, ℕ, List, [], ◌∷◌, codes, ◌==◌, get_or, drop, Option, Some, refl, sym, ap, subst, ◌∙◌}
 use Rattle.vk_lex.specs.Characters.{is_word_byte, run, after}
 use Rattle.vk_lex.specs.Comments.{Gap}
 use Rattle.vk_lex.specs.Tokens.{Kind}
@@ -75,3 +75,31 @@ pub no_heading : {text : List ℕ} → ((r : List ℕ) → Words (codes "include
 no_heading one two k m rest (an_include {more = more} words file) = one more words
 no_heading one two k m rest (a_pragma words none) = two rest words
 no_heading one two k m rest (a_directive words d) = let first = words_first words in two first.0 first.1
+
+-- ---- a line has one heading
+
+file_only : {text r s : List ℕ} → IsFile text r → IsFile text s → r ≡ s
+file_only f g = ap (drop 10) (sym f.file ∙ gap_only f.gap g.gap ∙ g.file)
+
+simd_declare : codes "simd" ≡ codes "declare" → ⊥
+simd_declare e = false≢true (ap (λ (l : List ℕ). get_or l 0 0 == 100) e)
+
+directive_only : {text r s : List ℕ} {j k : Kind} → IsDirective text j r → IsDirective text k s → (j ≡ k) × (r ≡ s)
+directive_only (a_simd v) (a_simd w) = (refl, word_only v w)
+directive_only (a_simd v) (a_simdfn w) = absurd (simd_declare (same_first v (words_first w).1))
+directive_only (a_simdfn v) (a_simd w) = absurd (simd_declare (same_first w (words_first v).1))
+directive_only (a_simdfn v) (a_simdfn w) = let first = words_first v in (refl, word_only (words_parts first.1 v) (words_parts first.1 w))
+
+pub heading_only : {text r s : List ℕ} {j k : Option Kind} {m n : Mode} → Heading text j m r → Heading text k n s → (j ≡ k) × (m ≡ n) × (r ≡ s)
+heading_only (an_include v f) (an_include {rest = rest} w g) = (refl, refl, file_only f (subst (λ (t : List ℕ). IsFile t rest) (word_only w v) g))
+heading_only (an_include v f) (a_pragma w none) = absurd (pragma_include (same_first w v))
+heading_only (an_include v f) (a_directive w d) = absurd (pragma_include (same_first (words_first w).1 v))
+heading_only (a_pragma v none) (an_include w g) = absurd (pragma_include (same_first v w))
+heading_only (a_pragma v none) (a_pragma w other) = (refl, refl, word_only v w)
+heading_only (a_pragma v none) (a_directive {more = more} w d) = absurd (none more (words_parts v w))
+heading_only (a_directive v d) (an_include w g) = absurd (pragma_include (same_first (words_first v).1 w))
+heading_only (a_directive {more = more} v d) (a_pragma w none) = absurd (none more (words_parts w v))
+heading_only (a_directive v d) (a_directive {rest = rest} {k = k} w e) =
+    let first = words_first v in
+    let only = directive_only d (subst (λ (t : List ℕ). IsDirective t k rest) (word_only (words_parts first.1 w) (words_parts first.1 v)) e) in
+    (ap Some only.0, refl, only.1)
