@@ -174,7 +174,7 @@ token_seen {m = m} ne (a_name {c = c} {cs = cs} w f) =
 token_seen {m = m} ne (a_number {c = c} {cs = cs} {t = t} {n = n} d f e) =
     subst (λ (s : Step). Seen s (Some (integer t n)) (going m) (after is_number_byte (c ∷ cs)))
     (sym (digit_at m c cs ne d ∙ ap (λ b. if b then faults C2 else literal_step m (after is_number_byte (c ∷ cs)) (literal (run is_number_byte (c ∷ cs)))) f
-        ∙ ap (literal_step m (after is_number_byte (c ∷ cs))) e)) (refl, refl, refl)
+    ∙ ap (literal_step m (after is_number_byte (c ∷ cs))) e)) (refl, refl, refl)
 token_seen {m = m} ne (a_sign {c = c} {cs = cs} {m = found} o p e) =
     subst (λ (s : Step). Seen s (Some (sign found)) (going m) (drop (length (mark_text found)) (c ∷ cs)))
     (sym (other_at m c cs ne o p ∙ ap (sign_step m (c ∷ cs)) e)) (refl, refl, refl)
@@ -195,7 +195,7 @@ fault_seen {m = m} ne (floating_number {c = c} {cs = cs} d f) =
 fault_seen {m = m} ne (no_literal {c = c} {cs = cs} {r = r} d f e) =
     subst (λ (s : Step). Faulted s r)
     (sym (digit_at m c cs ne d ∙ ap (λ b. if b then faults C2 else literal_step m (after is_number_byte (c ∷ cs)) (literal (run is_number_byte (c ∷ cs)))) f
-        ∙ ap (literal_step m (after is_number_byte (c ∷ cs))) e)) refl
+    ∙ ap (literal_step m (after is_number_byte (c ∷ cs))) e)) refl
 fault_seen {m = m} ne (floating_fraction {c = c} {cs = cs} o p e f) =
     subst (λ (s : Step). Faulted s C2) (sym (other_at m c cs ne o p ∙ ap (sign_step m (c ∷ cs)) e ∙ ap (λ b. if b then faults C2 else faults C1) f)) refl
 fault_seen {m = m} ne (stray_byte {c = c} {cs = cs} o p e f) =

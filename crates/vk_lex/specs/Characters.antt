@@ -32,9 +32,23 @@ joined (c ∷ cs) =
 abbrev pub characters : List ℕ → List Char
 characters bytes = joined (numbered 1 bytes)
 
+-- how many bytes a join has at the front of the bytes; 0 where there is none
+abbrev pub join_len : List ℕ → ℕ
+join_len [] = 0
+join_len (b ∷ []) = 0
+join_len (b ∷ c ∷ []) = if (b == 92) && (c == 10) then 2 else 0
+join_len (b ∷ c ∷ d ∷ ds) = if (b == 92) && (c == 10) then 2 else if (b == 92) && ((c == 13) && (d == 10)) then 3 else 0
+
+-- the codes and the lines of characters
+abbrev pub codes_of : List Char → List ℕ
+codes_of cs = map (λ c. c.code) cs
+
+abbrev pub lines_of : List Char → List ℕ
+lines_of cs = map (λ c. c.line) cs
+
 -- the text of a unit: the codes of its characters
 abbrev pub text_of : List ℕ → List ℕ
-text_of bytes = map (λ c. c.code) (characters bytes)
+text_of bytes = codes_of (characters bytes)
 
 -- the number of newlines
 abbrev pub newlines : List ℕ → ℕ

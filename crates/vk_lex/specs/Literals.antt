@@ -51,7 +51,7 @@ abbrev pub after_hex_digits : List ℕ → Option (List ℕ)
 after_hex_digits text =
     if begins_with 46 (after is_ascii_hexdigit text)
     then (if is_nil (run is_ascii_hexdigit text) && is_nil (run is_ascii_hexdigit (drop 1 (after is_ascii_hexdigit text))) then None
-        else Some (after is_ascii_hexdigit (drop 1 (after is_ascii_hexdigit text))))
+    else Some (after is_ascii_hexdigit (drop 1 (after is_ascii_hexdigit text))))
     else (if is_nil (run is_ascii_hexdigit text) then None else Some (after is_ascii_hexdigit text))
 
 abbrev pub some_exponent : Option (List ℕ) → Bool

@@ -55,13 +55,7 @@ fn past_file(text: &[u8]) -> Option<&[u8]>
     ensures none { result ≡ None → (rest : List ℕ) → IsFile text.now rest → ⊥ }
 {
     match past(b"<stdint.h>", past_gap(text)) {
-        Some(rest) => {
-            if is_clear(rest) {
-                Some(rest)
-            } else {
-                None
-            }
-        }
+        Some(rest) => { if is_clear(rest) { Some(rest) } else { None } }
         None => None,
     }
 }

@@ -103,7 +103,11 @@ fn after_hex_digits(text: &[u8]) -> Option<&[u8]>
     match rest {
         [b'.', rest @ ..] => {
             let (part, rest) = rest.split_at(hex_len(rest));
-            if whole.is_empty() && part.is_empty() { None } else { Some(rest) }
+            if whole.is_empty() && part.is_empty() {
+                None
+            } else {
+                Some(rest)
+            }
         }
         _ if whole.is_empty() => None,
         _ => Some(rest),

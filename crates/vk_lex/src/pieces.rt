@@ -14,9 +14,7 @@ use crate::comments::{after_comment, begins_blank, begins_with, is_open_comment}
 use crate::headings::heading;
 use crate::literals::{begins_floating, begins_fraction, literal};
 use crate::signs::sign;
-use vk_tokens::UnitRule;
-
-use vk_tokens::Mark;
+use vk_tokens::{Mark, UnitRule};
 use vk_types::Ty;
 
 /// Where a text stands in its line.

@@ -8,7 +8,7 @@ pub returns-then-not-is_start-clause-fault : goal.returns-then-not-is_start-clau
 returns-then-not-is_start-clause-fault c = late c.args.mode c.args.rest.now (c.if-not-is_start.ensures.other refl) c.requires
 
 pub returns-in-Some-clause-piece : goal.returns-in-Some-clause-piece
-returns-in-Some-clause-piece c = 
+returns-in-Some-clause-piece c =
     heads c.args.mode c.args.rest.now c.in-Some.line.rest.now (option_map found_kind c.in-Some.line.found) c.in-Some.line.mode (c.if-not-is_start.ensures.start refl) c.in-Some.ensures.heading
 
 pub returns-in-None-clause-fault : goal.returns-in-None-clause-fault
