@@ -1,1 +1,2 @@
+mod Patterns
 mod Wrapping
