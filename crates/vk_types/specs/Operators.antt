@@ -33,14 +33,20 @@ abbrev pub truth : Bool → ℤ
 truth true = pos 1
 truth false = pos 0
 
+-- a division or remainder by 0
+abbrev pub divides_by_0 : Op2 → ℤ → Bool
+divides_by_0 Div y = int_eq y (pos 0)
+divides_by_0 Rem y = int_eq y (pos 0)
+divides_by_0 op y = false
+
 -- a quotient or remainder, which a divisor of 0 stops
 abbrev pub divided : ℤ → ℤ → Result ℤ Stop
 divided y z = cond (int_eq y (pos 0)) (Err Divide) (Ok z)
 
 -- the exact result on a number of the type t
-abbrev pub exact1 : Op1 → Ty → ℤ → ℤ
-exact1 Neg t x = neg_ℤ x
-exact1 Not t x = pos (from_bits (width_of t) (λ k. 1 - bit_of x k))
+abbrev pub exact_unary : Op1 → Ty → ℤ → ℤ
+exact_unary Neg t x = neg_ℤ x
+exact_unary Not t x = pos (from_bits (width_of t) (λ k. 1 - bit_of x k))
 
 -- the exact result on numbers of the type t; in a shift y is the number of the right operand's own type
 abbrev pub exact : Op2 → Ty → ℤ → ℤ → Result ℤ Stop
@@ -83,7 +89,7 @@ wrapped t (Err stop) = Err stop
 
 -- the value of a unary operator
 abbrev pub op1_number : Op1 → Ty → ℤ → ℤ
-op1_number op t x = wrap_number t (exact1 op t x)
+op1_number op t x = wrap_number t (exact_unary op t x)
 
 -- the value or stop of a binary operator
 abbrev pub op2_number : Op2 → Ty → ℤ → ℤ → Result ℤ Stop

@@ -1,9 +1,10 @@
 // The operators on words.
 
-ghost use Rattle.std.specs.Prelude.{◌≡◌, ◌<◌, IfOk, FitsSigned, int_div, int_rem, neg_ℤ, pos};
+ghost use Rattle.std.specs.Prelude.{◌≡◌, ◌<◌, IfErr, IfOk, IsFalse, IsTrue, FitsSigned, int_div, int_rem, neg_ℤ, pos};
 ghost use Rattle.std.specs.Int.{w128};
+ghost use Rattle.vk_types.specs.declared.types.Stop.TheVariants.{Divide};
 ghost use Rattle.vk_types.specs.Numbers.{IsCanonical, number_of, width_of, wrap_number};
-ghost use Rattle.vk_types.specs.Operators.{HasNumber, op1_number, divided, op2_number, result_type, shift_count, wrapped};
+ghost use Rattle.vk_types.specs.Operators.{HasNumber, divided, divides_by_0, op1_number, op2_number, result_type, shift_count, wrapped};
 
 use crate::numbers::{number, size, wrap};
 use crate::types::{Op1, Op2, Stop, Ty, Word};
@@ -29,6 +30,8 @@ pub fn op2(op: Op2, t: Ty, a: Word, b: Word, bt: Ty) -> Result<Word, Stop>
     requires right { IsCanonical bt b.0 }
     ensures number { HasNumber (result_type op t) result (op2_number op t (number_of t a.0) (number_of bt b.0)) }
     ensures canonical { IfOk result (λ w. IsCanonical (result_type op t) w.0) }
+    ensures value { IfOk result (λ w. IsFalse (divides_by_0 op (number_of bt b.0))) }
+    ensures stop { IfErr result (λ stop. (stop ≡ Divide) × IsTrue (divides_by_0 op (number_of bt b.0))) }
 {
     let (x, y) = (number(t, a), number(bt, b));
     match op {

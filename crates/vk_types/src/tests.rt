@@ -81,6 +81,9 @@ fn converts_as_c_does(rt: HostRuntime) {
     }
     for (left, right, result) in &COMMONS {
         assert_eq!(rt; common(*left, *right), *result, "of {left:?} and {right:?}");
+        if left == right {
+            assert_eq!(rt; promote(*left), *result, "of {left:?}");
+        }
     }
 }
 
