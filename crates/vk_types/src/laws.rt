@@ -1,12 +1,14 @@
 // What the definitions of numbers, words, types and operators mean, as laws.
 
-ghost use Rattle.std.specs.Prelude.{◌≡◌, ◌<◌, ◌-◌, ◌+◌, ◌%◌, ◌≤ℤ◌, ◌+ℤ◌, ◌*ℤ◌, max, min, true, false, ℕ, ℤ, Ok, int_div, int_rem, unsigned_abs, pos};
+ghost use Rattle.std.specs.Prelude.{◌≡◌, ◌<◌, ◌-◌, ◌+◌, ◌%◌, ◌≤ℤ◌, ◌+ℤ◌, ◌*ℤ◌, max, min, true, ℕ, ℤ, Ok, Err, IsTrue, int_div, int_rem, neg_ℤ, unsigned_abs, pos};
 ghost use Rattle.vk_types.specs.declared.types.Op1.TheVariants.{Not};
-ghost use Rattle.vk_types.specs.declared.types.Op2.TheVariants.{And, Or, Xor};
-ghost use Rattle.vk_types.specs.declared.types.Ty.{Ty};
-ghost use Rattle.vk_types.specs.Conversions.{common_type, greatest_of, holds_all, least_of, promoted};
+ghost use Rattle.vk_types.specs.declared.types.Op2.TheVariants.{And, Div, Or, Rem, Xor};
+ghost use Rattle.vk_types.specs.declared.types.Stop.TheVariants.{Divide};
+ghost use Rattle.vk_types.specs.Conversions.{common_type, greatest_of, holds_all, is_signed, least_of, promoted};
 ghost use Rattle.vk_types.specs.Numbers.{IsCanonical, IsInRange, IsWrapOf, number_of, width_of, word_of, wrap_number};
-ghost use Rattle.vk_types.specs.Operators.{bit_of, op1_number, op2_number};
+ghost use Rattle.vk_types.specs.Operators.{bit_of, divides_by_0, op1_number, op2_number, result_type};
+
+use crate::types::{Op1, Op2, Stop, Ty};
 
 /// Wrapping gives the one number of a type's range that differs by a multiple of 2 to the width (C17 6.3.1.3).
 pub fn wrapping()
@@ -42,11 +44,21 @@ pub fn common_types()
     ensures order { (a b : Ty) → common_type a b ≡ common_type b a }
 {}
 
+/// The value of an operator is a number of its type, and `op2` stops exactly at a division or remainder by 0.
+pub fn values()
+    ensures unary { (op : Op1) (t : Ty) (x : ℤ) → IsInRange t (op1_number op t x) }
+    ensures binary { (op : Op2) (t : Ty) (x y z : ℤ) → op2_number op t x y ≡ Ok z → IsInRange (result_type op t) z }
+    ensures divide { (op : Op2) (t : Ty) (x y : ℤ) → IsTrue (divides_by_0 op y) → op2_number op t x y ≡ Err Divide }
+    ensures stop { (op : Op2) (t : Ty) (x y : ℤ) (stop : Stop) → op2_number op t x y ≡ Err stop → IsTrue (divides_by_0 op y) }
+{}
+
 /// A quotient is truncated: its product with the divisor and the remainder, which is less than the divisor, make the dividend
-/// (C17 6.5.5).
+/// (C17 6.5.5). The least number of a signed type divided by -1 wraps to itself, with the remainder 0.
 pub fn division()
     ensures sum { (x y : ℤ) → int_div x y *ℤ y +ℤ int_rem x y ≡ x }
     ensures rest { (x y : ℤ) → 0 < unsigned_abs y → unsigned_abs (int_rem x y) < unsigned_abs y }
+    ensures least { (t : Ty) → is_signed t ≡ true → op2_number Div t (least_of t) (neg_ℤ (pos 1)) ≡ Ok (least_of t) }
+    ensures least_rest { (t : Ty) → is_signed t ≡ true → op2_number Rem t (least_of t) (neg_ℤ (pos 1)) ≡ Ok (pos 0) }
 {}
 
 /// Each bit of a result of `~`, `&`, `|` and `^` is that operator's of the operands' bits (C17 6.5.3.3, 6.5.10 to 6.5.12).
