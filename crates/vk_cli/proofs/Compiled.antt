@@ -9,10 +9,10 @@ use Rattle.vk_types.specs.declared.types.Op2.{Op2}
 use Rattle.vk_types.specs.declared.types.Op2.TheVariants as ops
 use Rattle.vk_kinds.specs.declared.heads.CType.TheVariants.{Int}
 use Rattle.vk_code.specs.Code.{HasRightType, HasType, IsValidInstr, IsValidOperation}
-use Rattle.vk_cli.specs.Machine.{AreBuilt, IsBuiltOperation}
+use Rattle.vk_cli.specs.Machine.{AreBuilt, IsBuilt, IsBuiltOperation}
 use Rattle.std.specs.Option.{MatchOption}
 use Rattle.vk_types.specs.Numbers.{number_of, word_of}
-use Rattle.vk_types.specs.Operators.{IsBuilt, op2_number}
+use Rattle.vk_types.specs.Operators.{op2_number}
 use Rattle.vk_code.specs.declared.instruction.Instr.{Instr}
 use Rattle.vk_code.specs.declared.instruction.Operation.{Operation}
 use Rattle.vk_code.specs.declared.instruction.Operation.TheVariants.{Const, Binary}

@@ -11,14 +11,14 @@ use Rattle.vk_types.specs.declared.types.Ty.TheVariants.{I8, I16, I32, I64, U8, 
 use Rattle.vk_types.specs.declared.types.Op2.{Op2}
 use Rattle.vk_types.specs.declared.types.Stop.{Stop}
 use Rattle.vk_types.specs.Numbers.{IsCanonical, number_of}
-use Rattle.vk_types.specs.Operators.{IsBuilt, op2_number}
+use Rattle.vk_types.specs.Operators.{op2_number}
 use Rattle.vk_kinds.specs.declared.heads.CType.{CType}
 use Rattle.vk_kinds.specs.declared.heads.CType.TheVariants.{Int}
 use Rattle.vk_code.specs.declared.instruction.Instr.{Instr}
 use Rattle.vk_code.specs.declared.instruction.Operation.TheVariants.{Binary}
 use Rattle.vk_code.specs.Code.{HasType, HasRightType, called_with, types_of, integer_of}
 use Rattle.vk_code.specs.Lane.{Lane, act, run, step, with_reg, with_result}
-use Rattle.vk_cli.specs.Machine.{word_at, column, lane_of, AreCanonical, AreIntRows, IsWordOf}
+use Rattle.vk_cli.specs.Machine.{word_at, column, lane_of, AreCanonical, AreIntRows, IsBuilt, IsWordOf}
 
 -- a row that was read is that of its register
 pub row_read : (rows : List (List Word)) (r : ℕ) (row : List Word) → row ≡ get_or rows r row → r < length rows → row ≡ get_or rows r []

@@ -4,13 +4,13 @@ use Rattle.std.specs.List.{AllByRecursion}
 use Rattle.vk_types.specs.declared.types.Ty.{Ty}
 use Rattle.vk_types.specs.declared.types.Ty.TheVariants.{I32}
 use Rattle.vk_types.specs.Numbers.{IsCanonical, number_of}
-use Rattle.vk_types.specs.Operators.{IsBuilt}
 use Rattle.vk_code.specs.declared.instruction.Instr.{Instr}
 use Rattle.vk_code.specs.declared.instruction.Operation.{Operation}
 use Rattle.vk_code.specs.declared.instruction.Operation.TheVariants.{Const, Binary}
 use Rattle.vk_code.specs.Instruction.{operation_of}
 use Rattle.vk_code.specs.Lane.{Lane, is_live, run}
 use Rattle.vk_form.specs.Form.{Tree}
+use Rattle.vk_cli.specs.Machine.{IsBuilt}
 use Rattle.vk_cli.specs.Meaning.{argument_of, value_of}
 
 -- an operation of the machine on int registers below n

@@ -1,11 +1,13 @@
 -- Rows of registers as lanes: a row has one word for each lane.
-use Rattle.std.specs.Prelude.{◌≡◌, ℕ, ◌==◌, ◌<◌, List, [], length, map, slice_index_or, Option, Some, None, Result, Ok, Err, ℤ, ⊤}
+use Rattle.std.specs.Prelude.{◌≡◌, ℕ, ◌==◌, ◌<◌, ◌⊎◌, List, [], length, map, slice_index_or, Option, Some, None, Result, Ok, Err, ℤ, ⊤}
 use Rattle.std.specs.List.{AllByRecursion}
+use Rattle.vk_types.specs.declared.types.Ty.{Ty}
 use Rattle.vk_types.specs.declared.types.Ty.TheVariants.{I32}
+use Rattle.vk_types.specs.declared.types.Op2.{Op2}
+use Rattle.vk_types.specs.declared.types.Op2.TheVariants.{Add, Sub, Mul}
 use Rattle.vk_types.specs.declared.types.Word.{Word}
 use Rattle.vk_types.specs.declared.types.Stop.{Stop}
 use Rattle.vk_types.specs.Numbers.{word_of, IsCanonical}
-use Rattle.vk_types.specs.Operators.{IsBuilt}
 use Rattle.vk_kinds.specs.declared.heads.CType.{CType}
 use Rattle.vk_code.specs.declared.instruction.Instr.{Instr}
 use Rattle.vk_code.specs.declared.instruction.Operation.{Operation}
@@ -41,6 +43,10 @@ AreIntRows rows = (r : ℕ) → r < length rows → IsIntRow (slice_index_or row
 abbrev pub IsWordOf : ℕ → Result ℤ Stop → Type 0
 IsWordOf w (Ok z) = w ≡ word_of z
 IsWordOf w (Err stop) = ⊥
+
+-- the machine has the operator at the type: addition, subtraction and multiplication of int
+abbrev pub IsBuilt : Op2 → Ty → Type 0
+IsBuilt op t = (t ≡ I32) × ((op ≡ Add) ⊎ (op ≡ Sub) ⊎ (op ≡ Mul))
 
 -- the machine has the operation
 abbrev pub IsBuiltOperation : Option Operation → Type 0

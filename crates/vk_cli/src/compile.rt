@@ -3,13 +3,13 @@
 ghost use Rattle.std.specs.Prelude.{◌≡◌, ℕ, ◌+◌, ◌*◌, ◌<◌, ◌≤◌, ◌≢◌, ◌++◌, ◌∷◌, [], ℤ, List, length, map, replicate, slice_index, Contains, IfOk, IfSome, IsSome, Ok};
 ghost use Rattle.vk_types.specs.declared.types.Ty.TheVariants.{I32};
 ghost use Rattle.vk_types.specs.Numbers.{number_of};
-ghost use Rattle.vk_types.specs.Operators.{IsBuilt, op2_number};
+ghost use Rattle.vk_types.specs.Operators.{op2_number};
 ghost use Rattle.vk_code.specs.Code.{IsValid, types_of, word_after};
 ghost use Rattle.vk_code.specs.Instruction.{IsArithmetic};
 ghost use Rattle.vk_form.specs.Form.{tree_of, unit_of};
 ghost use Rattle.vk_form.specs.Grammar.{IsAllowed, NamesAreAmong, NumbersAreSmall, factor_count};
 ghost use Rattle.vk_cli.specs.Emission.{AppendsCode};
-ghost use Rattle.vk_cli.specs.Machine.{AreBuilt};
+ghost use Rattle.vk_cli.specs.Machine.{AreBuilt, IsBuilt};
 ghost use Rattle.vk_cli.specs.Meaning.{int_result, result_of};
 
 use std::alloc::{AllocError, Global};

@@ -3,11 +3,11 @@
 ghost use Rattle.std.specs.Prelude.{◌≡◌, ℕ, ◌<◌, ◌≤◌, length, vec_len, slice_index_or, [], IfOk, Some};
 ghost use Rattle.std.specs.Option.{MatchOption};
 ghost use Rattle.vk_types.specs.Numbers.{IsCanonical, number_of};
-ghost use Rattle.vk_types.specs.Operators.{IsBuilt, op2_number};
+ghost use Rattle.vk_types.specs.Operators.{op2_number};
 ghost use Rattle.vk_code.specs.Code.{IsValid, IsValidInstr, IsValidOperation, types_of, word_after};
 ghost use Rattle.vk_code.specs.Instruction.{operation_of};
 ghost use Rattle.vk_code.specs.Lane.{act, step};
-ghost use Rattle.vk_cli.specs.Machine.{AreBuilt, AreCanonical, IsBuiltOperation, IsWordOf, column, lane_of, word_at};
+ghost use Rattle.vk_cli.specs.Machine.{AreBuilt, AreCanonical, IsBuilt, IsBuiltOperation, IsWordOf, column, lane_of, word_at};
 
 use std::alloc::{AllocError, Global};
 use vk_code::{Code, Instr, Operation};

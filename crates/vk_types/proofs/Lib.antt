@@ -1,1 +1,3 @@
+mod Patterns
+mod WrapNumber
 mod Wrapping

@@ -39,20 +39,22 @@ zero_stays w32 = refl
 zero_stays w64 = refl
 zero_stays w128 = refl
 
--- a multiple of 2 to the width wraps to 0
-wrap_multiple : (w : Width) (m : ℤ) → int_wrap w (m *ℤ pos (2 ^ bits w)) ≡ pos 0
-wrap_multiple w m =
-    sym (int_wrap-mul_right w m (pos (2 ^ bits w))) ∙ ap (λ x. int_wrap w (m *ℤ x)) (zero_wraps w) ∙ ap (int_wrap w) (*ℤ-zero m) ∙ zero_stays w
+-- a multiple of what wraps to 0 does too, as one of 2 to the width
+wrap_multiple : (w : Width) (n : ℕ) → int_wrap w (pos n) ≡ pos 0 → (m : ℤ) → int_wrap w (m *ℤ pos n) ≡ pos 0
+wrap_multiple w n e m = sym (int_wrap-mul_right w m (pos n)) ∙ ap (λ x. int_wrap w (m *ℤ x)) e ∙ ap (int_wrap w) (*ℤ-zero m) ∙ zero_stays w
 
 -- what differs by such a multiple wraps alike
+wrap_alike_by : (w : Width) (n : ℕ) → int_wrap w (pos n) ≡ pos 0 → (r m : ℤ) → int_wrap w (r +ℤ (m *ℤ pos n)) ≡ int_wrap w r
+wrap_alike_by w n e r m =
+    sym (int_wrap-add_right w r (m *ℤ pos n)) ∙ ap (λ x. int_wrap w (r +ℤ x)) (wrap_multiple w n e m) ∙ ap (int_wrap w) (+ℤ_idr r)
+
 wrap_alike : (w : Width) (r m : ℤ) → int_wrap w (r +ℤ (m *ℤ pos (2 ^ bits w))) ≡ int_wrap w r
-wrap_alike w r m =
-    sym (int_wrap-add_right w r (m *ℤ pos (2 ^ bits w))) ∙ ap (λ x. int_wrap w (r +ℤ x)) (wrap_multiple w m) ∙ ap (int_wrap w) (+ℤ_idr r)
+wrap_alike w r m = wrap_alike_by w (2 ^ bits w) (zero_wraps w) r m
 
 pub signed_only : (w : Width) (z r m : ℤ) → FitsSigned w r → z ≡ r +ℤ (m *ℤ pos (2 ^ bits w)) → r ≡ int_wrap w z
 signed_only w z r m fits e = sym (int_wrap_fits w r fits) ∙ sym (wrap_alike w r m) ∙ ap (int_wrap w) (sym e)
 
-positive : (w : Width) → 0 < 2 ^ bits w
+pub positive : (w : Width) → 0 < 2 ^ bits w
 positive w8 = lit< tt
 positive w16 = lit< tt
 positive w32 = lit< tt
@@ -64,12 +66,12 @@ rem_abs : (z : ℤ) (n : ℕ) → int_rem_euclid z (pos n) ≡ pos (unsigned_abs
 rem_abs (pos a) n = refl
 rem_abs (negsuc a) n = refl
 
-rem_below : (z : ℤ) (n : ℕ) → 0 < n → unsigned_abs (int_rem_euclid z (pos n)) < n
+pub rem_below : (z : ℤ) (n : ℕ) → 0 < n → unsigned_abs (int_rem_euclid z (pos n)) < n
 rem_below (pos a) n h = mod-lt a h
 rem_below (negsuc a) n h = omega arith
 
 -- the remainder, from what is left in the signed type
-rem_of_wrap : (w : Width) (z : ℤ) → int_rem_euclid z (pos (2 ^ bits w)) ≡ pos (cast_unsigned w (int_wrap w z))
+pub rem_of_wrap : (w : Width) (z : ℤ) → int_rem_euclid z (pos (2 ^ bits w)) ≡ pos (cast_unsigned w (int_wrap w z))
 unfolding int_wrap
 rem_of_wrap w z =
     rem_abs z (2 ^ bits w) ∙ ap pos (sym (of_z-to_z w (unsigned_abs (int_rem_euclid z (pos (2 ^ bits w)))) (rem_below z (2 ^ bits w) (positive w))))
@@ -94,7 +96,7 @@ halves w32 = refl
 halves w64 = refl
 halves w128 = refl
 
-upper : (w : Width) (n : ℕ) → n < 2 ^ bits w → 2 ^ hbits w ≤ n → cast_signed w n ≡ negsuc (2 ^ bits w - suc n)
+pub upper : (w : Width) (n : ℕ) → n < 2 ^ bits w → 2 ^ hbits w ≤ n → cast_signed w n ≡ negsuc (2 ^ bits w - suc n)
 upper w n below past =
     let back : 2 ^ bits w - suc (2 ^ bits w - suc n) ≡ n = omega arith in
     ap (cast_signed w) (sym back) ∙ to_z-neg w (2 ^ bits w - suc n) (omega (arith, halves w))
@@ -102,7 +104,7 @@ upper w n below past =
 one_more : (n k m : ℕ) (x : ℤ) → k + suc n ≡ m → pos n +ℤ x ≡ negsuc k +ℤ (x +ℤ pos m)
 one_more n k m x h = omega (arith, ints)
 
-wrap_by_rem : (w : Width) (z : ℤ) (n : ℕ) → int_rem_euclid z (pos (2 ^ bits w)) ≡ pos n → int_wrap w z ≡ cast_signed w n
+pub wrap_by_rem : (w : Width) (z : ℤ) (n : ℕ) → int_rem_euclid z (pos (2 ^ bits w)) ≡ pos n → int_wrap w z ≡ cast_signed w n
 unfolding int_wrap
 wrap_by_rem w z n e = ap (λ x. cast_signed w (unsigned_abs x)) e
 
@@ -126,3 +128,10 @@ signed_multiple w z =
 -- the same for the unsigned type
 pub unsigned_multiple : (w : Width) (z : ℤ) → (m : ℤ) × (z ≡ int_rem_euclid z (pos (2 ^ bits w)) +ℤ (m *ℤ pos (2 ^ bits w)))
 unsigned_multiple w z = (int_div_euclid z (pos (2 ^ bits w)), euclid z (2 ^ bits w) (positive w))
+
+-- to wrap at 64 bits on the way changes nothing
+pub wrap_twice : (w : Width) → int_wrap w (pos (2 ^ 64)) ≡ pos 0 → (z : ℤ) → int_wrap w (int_wrap w64 z) ≡ int_wrap w z
+wrap_twice w e z = sym (ap (int_wrap w) (signed_multiple w64 z).1 ∙ wrap_alike_by w (2 ^ 64) e (int_wrap w64 z) (signed_multiple w64 z).0)
+
+pub rem_twice : (w : Width) → int_wrap w (pos (2 ^ 64)) ≡ pos 0 → (z : ℤ) → int_rem_euclid (int_wrap w64 z) (pos (2 ^ bits w)) ≡ int_rem_euclid z (pos (2 ^ bits w))
+rem_twice w e z = rem_of_wrap w (int_wrap w64 z) ∙ ap (λ x. pos (cast_unsigned w x)) (wrap_twice w e z) ∙ sym (rem_of_wrap w z)

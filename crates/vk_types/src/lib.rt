@@ -3,9 +3,11 @@
 
 pub mod laws;
 pub mod numbers;
+pub mod operators;
 pub mod types;
 
-pub use numbers::{number, op2, size, wrap};
+pub use numbers::{common, convert, number, promote, size, wrap};
+pub use operators::{op1, op2};
 pub use types::{Op1, Op2, Stop, Ty, Word};
 
 #[cfg(test)]

@@ -1,10 +1,10 @@
-// Words and numbers, and the operators on words.
+// Words and numbers, and the conversions between types.
 
-ghost use Rattle.std.specs.Prelude.{◌≡◌, ◌*◌, IfOk};
+ghost use Rattle.std.specs.Prelude.{◌≡◌, ◌*◌};
+ghost use Rattle.vk_types.specs.Conversions.{common_type, promoted};
 ghost use Rattle.vk_types.specs.Numbers.{IsCanonical, IsInRange, number_of, width_of, wrap_number};
-ghost use Rattle.vk_types.specs.Operators.{HasNumber, IsBuilt, op2_number, result_type};
 
-use crate::types::{Op2, Stop, Ty, Word};
+use crate::types::{Ty, Word};
 
 /// The size of a type in bytes: 1, 2, 4 or 8.
 pub fn size(t: Ty) -> u32
@@ -55,23 +55,35 @@ pub fn number(t: Ty, w: Word) -> i128
     }
 }
 
-/// The value of `a op b`, or the stop of a divisor 0 (C17 6.5.5 to 6.5.12).
-///
-/// `t` is the type of `a` and, but for shifts, of `b`, whose type is `bt`; both words are canonical.
-/// So far `int` addition, subtraction and multiplication are built, and these never stop.
-pub fn op2(op: Op2, t: Ty, a: Word, b: Word, bt: Ty) -> Result<Word, Stop>
-    requires built { IsBuilt op t }
-    requires types { bt ≡ t }
-    requires left { IsCanonical t a.0 }
-    requires right { IsCanonical bt b.0 }
-    ensures number { HasNumber (result_type op t) result (op2_number op t (number_of t a.0) (number_of bt b.0)) }
-    ensures canonical { IfOk result (λ w. IsCanonical (result_type op t) w.0) }
+/// The type that an operand of type `t` is promoted to (C17 6.3.1.1).
+pub fn promote(t: Ty) -> Ty
+    ensures { result ≡ promoted t }
 {
-    let (x, y) = (number(t, a), number(bt, b));
-    match op {
-        Op2::Add => Ok(wrap(t, x + y)),
-        Op2::Sub => Ok(wrap(t, x - y)),
-        Op2::Mul => Ok(wrap(t, x * y)),
-        _ => unreachable!(),
+    match t {
+        Ty::I8 | Ty::I16 | Ty::I32 | Ty::U8 | Ty::U16 => Ty::I32,
+        Ty::U32 => Ty::U32,
+        Ty::I64 => Ty::I64,
+        Ty::U64 => Ty::U64,
     }
+}
+
+/// The type in which an operator works on operands of the types `a` and `b` (C17 6.3.1.8).
+pub fn common(a: Ty, b: Ty) -> Ty
+    ensures { result ≡ common_type a b }
+{
+    match (promote(a), promote(b)) {
+        (Ty::U64, _) | (_, Ty::U64) => Ty::U64,
+        (Ty::I64, _) | (_, Ty::I64) => Ty::I64,
+        (Ty::U32, _) | (_, Ty::U32) => Ty::U32,
+        _ => Ty::I32,
+    }
+}
+
+/// The word of type `to` for the number of `w`, a word canonical for `from` (C17 6.3.1.3, with signed types as unsigned ones).
+pub fn convert(from: Ty, to: Ty, w: Word) -> Word
+    requires { IsCanonical from w.0 }
+    ensures number { number_of to result.0 ≡ wrap_number to (number_of from w.0) }
+    ensures canonical { IsCanonical to result.0 }
+{
+    wrap(to, number(from, w))
 }

@@ -1,7 +1,91 @@
-// Worked values of wrapping and of int arithmetic.
+// The operators and conversions against outside values, from data/operators.c, and worked values of wrapping.
+
+mod binary;
+mod commons;
+mod conversions;
+mod unary;
 
 use super::*;
+use binary::BINARY;
+use commons::COMMONS;
+use conversions::CONVERSIONS;
 use std::test::Fail;
+use unary::UNARY;
+
+// The type of `a op b` for operands of these types.
+fn type_of_result(op: Op2, left: Ty, right: Ty) -> Ty {
+    match op {
+        Op2::Eq | Op2::Ne | Op2::Lt | Op2::Le => Ty::I32,
+        Op2::Shl | Op2::Shr => promote(left),
+        _ => common(left, right),
+    }
+}
+
+// The value of `a op b` for operands that are not converted yet.
+fn computed(op: Op2, left: Ty, x: i128, right: Ty, y: i128) -> Result<Word, Stop> {
+    let (t, bt) = match op {
+        Op2::Shl | Op2::Shr => (promote(left), right),
+        _ => (common(left, right), common(left, right)),
+    };
+    op2(
+        op,
+        t,
+        convert(left, t, wrap(left, x)),
+        convert(right, bt, wrap(right, y)),
+        bt,
+    )
+}
+
+#[test]
+fn computes_as_c_does(rt: HostRuntime) -> Result<(), Fail> {
+    for (op, t, n, result) in &UNARY {
+        let word = op1(*op, promote(*t), convert(*t, promote(*t), wrap(*t, *n)));
+        assert_eq!(rt;
+            word,
+            wrap(promote(*t), *result),
+            "of {op:?} at {n} in {t:?}"
+        );
+    }
+    for (op, left, x, right, y, result) in &BINARY {
+        let word = computed(*op, *left, *x, *right, *y).map_err(|_| "stopped")?;
+        assert_eq!(rt;
+            word,
+            wrap(type_of_result(*op, *left, *right), *result),
+            "of {op:?} at {x} and {y} in {left:?} and {right:?}"
+        );
+    }
+    Ok(())
+}
+
+#[test]
+fn stops_at_divisors_of_0_alone(rt: HostRuntime) {
+    for t in [Ty::I32, Ty::I64, Ty::U32, Ty::U64] {
+        for op in [Op2::Div, Op2::Rem] {
+            assert_eq!(rt;
+                op2(op, t, wrap(t, 7), Word(0), t),
+                Err(Stop::Divide),
+                "of {op:?} in {t:?}"
+            );
+        }
+    }
+}
+
+#[test]
+fn converts_as_c_does(rt: HostRuntime) {
+    for (from, n, to, result) in &CONVERSIONS {
+        assert_eq!(rt;
+            convert(*from, *to, wrap(*from, *n)),
+            wrap(*to, *result),
+            "of {n} in {from:?} to {to:?}"
+        );
+    }
+    for (left, right, result) in &COMMONS {
+        assert_eq!(rt; common(*left, *right), *result, "of {left:?} and {right:?}");
+        if left == right {
+            assert_eq!(rt; promote(*left), *result, "of {left:?}");
+        }
+    }
+}
 
 #[test]
 fn wraps_into_each_type(rt: HostRuntime) {
@@ -20,24 +104,6 @@ fn wraps_into_each_type(rt: HostRuntime) {
     ] {
         assert_eq!(rt; wrap(t, n).0, word, "at {n}");
     }
-}
-
-#[test]
-fn computes_in_int(rt: HostRuntime) -> Result<(), Fail> {
-    for (op, a, b, result) in [
-        (Op2::Add, 2147483647, 1, -2147483648),
-        (Op2::Add, -2147483648, -1, 2147483647),
-        (Op2::Sub, -2147483648, 1, 2147483647),
-        (Op2::Sub, 5, 7, -2),
-        (Op2::Mul, 65536, 65536, 0),
-        (Op2::Mul, 2147483647, 2147483647, 1),
-        (Op2::Mul, -2147483648, -1, -2147483648),
-    ] {
-        let (left, right) = (wrap(Ty::I32, a), wrap(Ty::I32, b));
-        let word = op2(op, Ty::I32, left, right, Ty::I32).map_err(|_| "stopped")?;
-        assert_eq!(rt; number(Ty::I32, word), result, "at {a} and {b}");
-    }
-    Ok(())
 }
 
 #[test]
