@@ -1,5 +1,6 @@
 mod Gaps
 mod Fronts
+mod Joins
 mod Steps
 mod Values
 mod Words
