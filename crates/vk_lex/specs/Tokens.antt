@@ -1,5 +1,7 @@
 -- Tokens by their texts, and the state between two of them.
-use Rattle.std.specs.Prelude.{◌≡◌, ℕ, ◌<◌, List, [], ◌∷◌, ◌++◌, map, length, slice_get, Option, Some, None}
+use Rattle.std.specs.Prelude.{◌≡◌, ℕ, ◌+◌, ◌<◌, ◌≤◌, true, List, [], ◌∷◌, ◌++◌, map, length, slice_get, slice_index, Option, Some, None}
+use Rattle.std.specs.List.{list_all}
+use Rattle.vk_lex.specs.Characters.{is_word_byte, is_word_start}
 use Rattle.std.specs.Option.{unwrap_or}
 use Rattle.vk_types.specs.declared.types.Ty.{Ty}
 use Rattle.vk_lex.specs.declared.pieces.Found.{Found}
@@ -52,3 +54,14 @@ IsNamed names (Sign m) = Unit {0}
 IsNamed names Simdfn = Unit {0}
 IsNamed names Simd = Unit {0}
 IsNamed names LineEnd = Unit {0}
+
+-- an identifier (C17 6.4.2.1)
+pub record IsIdentifier (text : List ℕ) : Type 0 where
+  pub first : is_word_start (slice_index text 0) ≡ true
+  pub bytes : list_all is_word_byte text ≡ true
+
+-- a table that has kept its names, and has at most one more
+pub record Grows (old new : List (List ℕ)) : Type 0 where
+  pub keeps : (k : ℕ) (text : List ℕ) → slice_get old k ≡ Some text → slice_get new k ≡ Some text
+  pub longer : length old ≤ length new
+  pub most : length new ≤ length old + 1

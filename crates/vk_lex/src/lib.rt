@@ -5,6 +5,7 @@ pub mod characters;
 pub mod comments;
 pub mod headings;
 pub mod laws;
+pub mod lex;
 pub mod literals;
 pub mod pieces;
 pub mod signs;

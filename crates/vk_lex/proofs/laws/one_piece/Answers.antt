@@ -1,4 +1,5 @@
 use Rattle.vk_lex.proofs.Steps.{one_piece}
+use Rattle.vk_lex.proofs.Lengths.{piece_length}
 use Rattle.vk_lex.proofs.laws.one_piece.Goals as goal
 
 pub returns : goal.returns
