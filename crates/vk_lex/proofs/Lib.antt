@@ -2,6 +2,7 @@ mod Gaps
 mod Fronts
 mod Joins
 mod Lengths
+mod Loop
 mod Places
 mod Steps
 mod Values

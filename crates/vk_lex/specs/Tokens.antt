@@ -1,5 +1,5 @@
 -- Tokens by their texts, and the state between two of them.
-use Rattle.std.specs.Prelude.{◌≡◌, ℕ, ◌+◌, ◌<◌, ◌≤◌, true, List, [], ◌∷◌, ◌++◌, map, length, slice_get, slice_index, Option, Some, None}
+use Rattle.std.specs.Prelude.{◌≡◌, ℕ, ◌+◌, ◌<◌, ◌≤◌, true, List, [], ◌∷◌, ◌++◌, ◌⊎◌, map, length, slice_get, slice_index, Option, Some, None}
 use Rattle.std.specs.List.{list_all}
 use Rattle.vk_lex.specs.Characters.{is_word_byte, is_word_start}
 use Rattle.std.specs.Option.{unwrap_or}
@@ -60,8 +60,24 @@ pub record IsIdentifier (text : List ℕ) : Type 0 where
   pub first : is_word_start (slice_index text 0) ≡ true
   pub bytes : list_all is_word_byte text ≡ true
 
--- a table that has kept its names, and has at most one more
-pub record Grows (old new : List (List ℕ)) : Type 0 where
+abbrev pub AreIdentifiers : List (List ℕ) → Type 0
+AreIdentifiers names = (k : ℕ) (text : List ℕ) → slice_get names k ≡ Some text → IsIdentifier text
+
+-- a table that has kept its names, and has at most that of this token more
+pub record Grows (old new : List (List ℕ)) (kind : Kind) : Type 0 where
   pub keeps : (k : ℕ) (text : List ℕ) → slice_get old k ≡ Some text → slice_get new k ≡ Some text
-  pub longer : length old ≤ length new
+  pub only : (k : ℕ) (text : List ℕ) → slice_get new k ≡ Some text → (slice_get old k ≡ Some text) ⊎ (kind ≡ word text)
   pub most : length new ≤ length old + 1
+
+-- a list of tokens and a table of names, with one token more
+pub record TellsOne (line : ℕ) (kind : Kind) (old new : List Token) (before now : List (List ℕ)) : Type 0 where
+  pub token : Token
+  pub list : new ≡ old ++ token ∷ []
+  pub is : tok_of now token ≡ record { line = line; kind = kind }
+  pub named : IsNamed now token.kind
+  pub grows : Grows before now kind
+
+-- what the list and the table become with a piece
+abbrev pub Tells : Option Kind → (line : ℕ) → (old new : List Token) → (before now : List (List ℕ)) → Type 0
+Tells None line old new before now = (new ≡ old) × (now ≡ before)
+Tells (Some k) line old new before now = TellsOne line k old new before now

@@ -4,13 +4,15 @@ ghost use Rattle.std.specs.Prelude.{◌≡◌, ◌<◌, ◌≤◌, ℕ, List, ma
 ghost use Rattle.std.specs.List.{All};
 ghost use Rattle.vk_ast.specs.Names.{AreDistinct};
 ghost use Rattle.vk_lex.specs.Characters.{characters as characters_in, last_line, line_of, lines_of};
-ghost use Rattle.vk_lex.specs.Tokens.{Tok, found_kind, kind_of, tok_of, IsNamed, IsIdentifier, Grows};
+ghost use Rattle.vk_lex.specs.Tokens.{Tok, found_kind, kind_of, tok_of, IsNamed, AreIdentifiers, Grows, Tells};
+ghost use Rattle.std.specs.Option.{option_map};
+ghost use Rattle.vk_tokens.specs.declared.rules.UnitFail.TheVariants.{Memory as MemoryFail};
 ghost use Rattle.vk_lex.specs.Lexing.{Lexes, Refuses};
 ghost use Rattle.vk_lex.specs.Answers.{IsTokensOrMemory, IsFaultOrMemory, IsRefusedOrMemory};
 ghost use Rattle.vk_tokens.specs.declared.rules.UnitRule.{UnitRule as UnitRuleOf};
 
 use crate::characters::{Characters, characters_of};
-use crate::pieces::{Found, Mode, first_piece};
+use crate::pieces::{Found, Mode, ended, first_piece};
 use std::alloc::Global;
 use vk_ast::{Memory, NameTable};
 use vk_tokens::{Token, TokenKind, Tokens, UnitFail};
@@ -33,7 +35,7 @@ fn token_kind(names: &mut NameTable, found: Found<'_>) -> Result<TokenKind, Memo
     requires { length names.old < 4294967295 }
     ensures kind { IfOk result (λ k. kind_of names.new k ≡ found_kind found.entry) }
     ensures named { IfOk result (λ k. IsNamed names.new k) }
-    ensures grows { OnOk result (Grows names.old names.new) }
+    ensures grows { OnOk result (Grows names.old names.new (found_kind found.entry)) }
     ensures same { OnErr result (names.new ≡ names.old) }
 {
     match found {
@@ -43,6 +45,27 @@ fn token_kind(names: &mut NameTable, found: Found<'_>) -> Result<TokenKind, Memo
         Found::Simdfn => Ok(TokenKind::Simdfn),
         Found::Simd => Ok(TokenKind::Simd),
         Found::LineEnd => Ok(TokenKind::LineEnd),
+    }
+}
+
+// One token more, where the piece gives one.
+fn push_found(
+    list: &mut Vec<Token>,
+    names: &mut NameTable,
+    line: u32,
+    found: Option<Found<'_>>,
+) -> Result<(), UnitFail>
+    requires { length names.old < 4294967295 }
+    ensures tells { OnOk result (Tells (option_map found_kind found.entry) line list.old.items list.new.items names.old names.new) }
+    ensures memory { IfErr result (λ fail. fail ≡ MemoryFail) }
+{
+    match found {
+        Some(found) => {
+            let kind = token_kind(names, found)?;
+            list.push(Token { line, kind })?;
+            Ok(())
+        }
+        None => Ok(()),
     }
 }
 
@@ -63,7 +86,7 @@ pub fn lex(alloc: Global, bytes: &[u8]) -> Result<Tokens, UnitFail>
     // Each name is in the table, once, and is an identifier.
     ensures named { IfOk result (λ ts. All (λ t. IsNamed ts.names t.kind) ts.list.items) }
     ensures distinct { IfOk result (λ ts. AreDistinct ts.names) }
-    ensures identifiers { IfOk result (λ ts. All IsIdentifier ts.names) }
+    ensures identifiers { IfOk result (λ ts. AreIdentifiers ts.names) }
     ensures last { IfOk result (λ ts. ts.last ≡ last_line bytes.now) }
     ensures count { IfOk result (λ ts. length ts.list.items ≤ length bytes.now) }
 {
@@ -78,20 +101,11 @@ pub fn lex(alloc: Global, bytes: &[u8]) -> Result<Tokens, UnitFail>
             Ok(piece) => piece,
             Err(rule) => return Err(UnitFail::Fault { line, rule }),
         };
-        if let Some(found) = piece.found {
-            let kind = token_kind(&mut names, found)?;
-            list.push(Token { line, kind })?;
-        }
+        push_found(&mut list, &mut names, line, piece.found)?;
         mode = piece.mode;
         rest = piece.rest;
     }
-    if mode == Mode::Directive {
-        let kind = TokenKind::LineEnd;
-        list.push(Token {
-            line: characters.last,
-            kind,
-        })?;
-    }
+    push_found(&mut list, &mut names, characters.last, ended(mode))?;
     let _count = names.len();
     Ok(Tokens {
         list,

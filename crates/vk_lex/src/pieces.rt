@@ -136,8 +136,8 @@ fn token(text: &[u8]) -> Result<(Found<'_>, &[u8]), UnitRule>
     }
 }
 
-// What the end of a line gives.
-fn ended(mode: Mode) -> Option<Found<'static>>
+/// What the end of a line gives.
+pub(crate) fn ended(mode: Mode) -> Option<Found<'static>>
     ensures { option_map found_kind result ≡ ended mode }
 {
     match mode {
