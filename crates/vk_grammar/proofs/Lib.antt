@@ -1,1 +1,5 @@
 mod Examples
+pub mod Signs
+pub mod Starts
+pub mod Steps
+pub mod Sound
