@@ -33,7 +33,7 @@ sign_begins mark.Tilde p e = refl
 sign_begins mark.Bang p e = refl
 sign_begins _ p e = cc
 
-prefix_begins : (k : SymKind) (p : Prefix) → prefix_at (Some k) ≡ Some p → is_start (Some k) ≡ true
+pub prefix_begins : (k : SymKind) (p : Prefix) → prefix_at (Some k) ≡ Some p → is_start (Some k) ≡ true
 unfolding prefix_at
 prefix_begins (kind.Sign m) p e = sign_begins m p e
 prefix_begins _ p e = cc
