@@ -4,3 +4,4 @@ pub mod Starts
 pub mod Steps
 pub mod Sound
 pub mod Grown
+pub mod Heights
