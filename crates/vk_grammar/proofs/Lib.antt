@@ -5,3 +5,6 @@ pub mod Steps
 pub mod Sound
 pub mod Grown
 pub mod Heights
+pub mod Stops
+pub mod Equations
+pub mod Whole
