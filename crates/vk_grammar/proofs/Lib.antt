@@ -8,3 +8,5 @@ pub mod Heights
 pub mod Stops
 pub mod Equations
 pub mod Whole
+pub mod Places
+pub mod Theorem

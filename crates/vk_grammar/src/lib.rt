@@ -4,6 +4,7 @@
 //! relation and the code of the parser, of which each function is one of the reader's.
 #![tactic(auto)]
 
+pub mod laws;
 pub mod symbols;
 
 pub use symbols::{Keyword, Operator, Prefix, Sym, SymKind, TypeWord};
