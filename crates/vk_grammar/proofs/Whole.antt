@@ -59,20 +59,33 @@ close_begins_none = refl
 pub record ReadsAs (s : Sort) (e : Tree) (h : ℕ) (u : List Sym) : Type 0 where
   pub reads : (turns d : ℕ) (r : List Sym) → h ≤ d → length u < turns → Stops s (head r) → expression turns d s (u ++ r) ≡ Ok (tall e h, r)
 
--- `o` has come to a loop, with enough turns left
-pub record Comes (limit h : ℕ) (o : Result (Tall × List Sym) Fault) (loop : ℕ → Result (Tall × List Sym) Fault) : Type 0 where
+-- `o` has come to a loop behind the text `x`, with enough turns left
+pub record Comes (limit h : ℕ) (x : List Sym) (o : Result (Tall × List Sym) Fault) (loop : (m l k : ℕ) → Result (Tall × List Sym) Fault) : Type 0 where
   pub left : ℕ
   pub room : limit < left + h
-  pub is : o ≡ loop left
+  pub is : o ≡ loop left (line_at x) (number_at x)
+
+from_there : {limit h : ℕ} {x : List Sym} {o q : Result (Tall × List Sym) Fault} {loop : (m l k : ℕ) → Result (Tall × List Sym) Fault}
+    → q ≡ o → Comes limit h x o loop → Comes limit h x q loop
+from_there e c = record { left = c.left; room = c.room; is = e ∙ c.is }
+
+-- a longer text begins with the same token
+along : {limit h : ℕ} {x : List Sym} {o : Result (Tall × List Sym) Fault} {loop : (m l k : ℕ) → Result (Tall × List Sym) Fault} (y : List Sym)
+    → Starts x → Comes limit h x o loop → Comes limit h (x ++ y) o loop
+along {x = x} {loop = loop} y s c = record {
+  left = c.left;
+  room = c.room;
+  is = c.is ∙ ap (λ l. loop c.left l (number_at x)) (sym (same_line y s)) ∙ ap (λ k. loop c.left (line_at (x ++ y)) k) (sym (same_number y s));
+}
 
 -- A text that goes on to the left: read as far as here, the loop stands at the next token.
 pub record OpensAs (n : ℕ) (e : Tree) (h : ℕ) (u : List Sym) : Type 0 where
   pub opens : (turns d : ℕ) (r : List Sym) → h ≤ suc d → length u < turns → StopsAt n (head r)
-      → Comes (suc d) h (levels d turns (expression turns d) (suc n) (u ++ r)) (λ m. operators d turns (expression turns d) m n (line_at u) (number_at u) (tall e h) r)
+      → Comes (suc d) h u (levels d turns (expression turns d) (suc n) (u ++ r)) (λ m l k. operators d turns (expression turns d) m n l k (tall e h) r)
 
 pub record PostAs (e : Tree) (h : ℕ) (u : List Sym) : Type 0 where
   pub opens : (turns d : ℕ) (r : List Sym) → h ≤ suc d → length u < turns → is_sign mark.OpenParen (head r) ≡ false
-      → Comes (suc d) h (unaries d turns (expression turns d) (u ++ r)) (λ m. subscripts d turns (expression turns d) m (line_at u) (number_at u) (tall e h) r)
+      → Comes (suc d) h u (unaries d turns (expression turns d) (u ++ r)) (λ m l k. subscripts d turns (expression turns d) m l k (tall e h) r)
 
 pub record ArgsAs (list : List Tall) (u : List Sym) : Type 0 where
   pub reads : (turns d : ℕ) (v : Sym) (r : List Sym) → greatest list ≤ d → length u < turns → IsSign mark.CloseParen v
@@ -121,7 +134,7 @@ unfolding expression levels
 lower_opens {n} {e} {h} {u} p s read = record { opens = at }
   where
     at : (turns d : ℕ) (r : List Sym) → h ≤ suc d → length u < turns → StopsAt n (head r)
-        → Comes (suc d) h (levels d turns (expression turns d) (suc n) (u ++ r)) (λ m. operators d turns (expression turns d) m n (line_at u) (number_at u) (tall e h) r)
+        → Comes (suc d) h u (levels d turns (expression turns d) (suc n) (u ++ r)) (λ m l k. operators d turns (expression turns d) m n l k (tall e h) r)
     at turns d r i len stops = record {
       left = suc d;
       room = omega arith;
@@ -130,33 +143,30 @@ lower_opens {n} {e} {h} {u} p s read = record { opens = at }
           ∙ ap (λ k. operators d turns (expression turns d) (suc d) n (line_at u) k (tall e h) r) (same_number r s);
     }
 
-binary_opens : {n : ℕ} {o : BinOp} {a b : Tree} {h k : ℕ} {x : List Sym} {t : Sym} {y : List Sym} → Starts x → 0 < h → OpensAs n a h x → IsOperator (suc n) o t → ReadsAs (level n) b k y
-    → OpensAs n (Tree.binary (line_at x) (number_at x) o a b) (suc (max h k)) (x ++ (t ∷ y))
-binary_opens {n} {o} {a} {b} {h} {k} {x} {t} {y} s p first i second = record { opens = at }
+binary_opens : {n : ℕ} {o : BinOp} {a b : Tree} {h g : ℕ} {x : List Sym} {t : Sym} {y : List Sym} → Starts x → 0 < h → OpensAs n a h x → IsOperator (suc n) o t → ReadsAs (level n) b g y
+    → OpensAs n (Tree.binary (line_at x) (number_at x) o a b) (suc (max h g)) (x ++ (t ∷ y))
+binary_opens {n} {o} {a} {b} {h} {g} {x} {t} {y} s p first i second = record { opens = at }
   where
-    step : (turns d m : ℕ) (r : List Sym) → h ≤ d → k ≤ d → length y < turns → StopsAt n (head r) → suc d < m + h
-        → Comes (suc d) (suc (max h k)) (operators d turns (expression turns d) m n (line_at x) (number_at x) (tall a h) (t ∷ (y ++ r)))
-        (λ m. operators d turns (expression turns d) m n (line_at x) (number_at x) (tall (Tree.binary (line_at x) (number_at x) o a b) (suc (max h k))) r)
-    step turns d zero r ih ik len stops room = absurd (omega arith)
-    step turns d (suc m) r ih ik len stops room = record {
+    node : Tall
+    node = tall (Tree.binary (line_at x) (number_at x) o a b) (suc (max h g))
+
+    step : (turns d m : ℕ) (r : List Sym) → h ≤ d → g ≤ d → length y < turns → StopsAt n (head r) → suc d < m + h
+        → Comes (suc d) (suc (max h g)) x (operators d turns (expression turns d) m n (line_at x) (number_at x) (tall a h) (t ∷ (y ++ r)))
+        (λ m l k. operators d turns (expression turns d) m n l k node r)
+    step turns d zero r ih ig len stops room = absurd (omega arith)
+    step turns d (suc m) r ih ig len stops room = record {
       left = m;
       room = omega arith;
-      is = Equations.operator_reads d turns (expression turns d) m n (line_at x) (number_at x) (tall a h) y r i ih (second.reads turns d r ik len stops);
+      is = Equations.operator_reads d turns (expression turns d) m n (line_at x) (number_at x) (tall a h) y r i ih (second.reads turns d r ig len stops);
     }
 
-    at : (turns d : ℕ) (r : List Sym) → suc (max h k) ≤ suc d → length (x ++ (t ∷ y)) < turns → StopsAt n (head r)
-        → Comes (suc d) (suc (max h k)) (levels d turns (expression turns d) (suc n) ((x ++ (t ∷ y)) ++ r))
-        (λ m. operators d turns (expression turns d) m n (line_at (x ++ (t ∷ y))) (number_at (x ++ (t ∷ y))) (tall (Tree.binary (line_at x) (number_at x) o a b) (suc (max h k))) r)
+    at : (turns d : ℕ) (r : List Sym) → suc (max h g) ≤ suc d → length (x ++ (t ∷ y)) < turns → StopsAt n (head r)
+        → Comes (suc d) (suc (max h g)) (x ++ (t ∷ y)) (levels d turns (expression turns d) (suc n) ((x ++ (t ∷ y)) ++ r))
+        (λ m l k. operators d turns (expression turns d) m n l k node r)
     at turns d r ih len stops =
         let c = first.opens turns d (t ∷ (y ++ r)) (omega arith) (omega (arith, length-append x (t ∷ y))) (operator_stops i) in
-        let g = step turns d c.left r (omega arith) (omega arith) (omega (arith, length-append x (t ∷ y))) stops c.room in
-        record {
-          left = g.left;
-          room = g.room;
-          is = ap (levels d turns (expression turns d) (suc n)) (append_assoc x (t ∷ y) r) ∙ c.is ∙ g.is
-              ∙ ap (λ l. operators d turns (expression turns d) g.left n l (number_at x) (tall (Tree.binary (line_at x) (number_at x) o a b) (suc (max h k))) r) (sym (same_line (t ∷ y) s))
-              ∙ ap (λ q. operators d turns (expression turns d) g.left n (line_at (x ++ (t ∷ y))) q (tall (Tree.binary (line_at x) (number_at x) o a b) (suc (max h k))) r) (sym (same_number (t ∷ y) s));
-        }
+        along (t ∷ y) s (from_there (ap (levels d turns (expression turns d) (suc n)) (append_assoc x (t ∷ y) r) ∙ c.is)
+        (step turns d c.left r (omega arith) (omega arith) (omega (arith, length-append x (t ∷ y))) stops c.room))
 
 -- ---- primary and postfix expressions
 
@@ -189,34 +199,32 @@ group_opens {u} {e} {h} {x} {v} p s opens read shuts = record {
   };
 }
 
-index_opens : {b i : Tree} {h k : ℕ} {x : List Sym} {u : Sym} {y : List Sym} {v : Sym} → Starts x → PostAs b h x → IsSign mark.OpenBracket u → ReadsAs full i k y → IsSign mark.CloseBracket v
-    → PostAs (Tree.index (line_at x) (number_at x) b i) (suc (max h k)) (x ++ (u ∷ (y ++ (v ∷ []))))
-index_opens {b} {i} {h} {k} {x} {u} {y} {v} s first opens second shuts = record { opens = at }
+index_opens : {b i : Tree} {h g : ℕ} {x : List Sym} {u : Sym} {y : List Sym} {v : Sym} → Starts x → PostAs b h x → IsSign mark.OpenBracket u → ReadsAs full i g y → IsSign mark.CloseBracket v
+    → PostAs (Tree.index (line_at x) (number_at x) b i) (suc (max h g)) (x ++ (u ∷ (y ++ (v ∷ []))))
+index_opens {b} {i} {h} {g} {x} {u} {y} {v} s first opens second shuts = record { opens = at }
   where
-    step : (turns d m : ℕ) (r : List Sym) → h ≤ d → k ≤ d → length y < turns → suc d < m + h
-        → Comes (suc d) (suc (max h k)) (subscripts d turns (expression turns d) m (line_at x) (number_at x) (tall b h) (u ∷ (y ++ (v ∷ r))))
-        (λ m. subscripts d turns (expression turns d) m (line_at x) (number_at x) (tall (Tree.index (line_at x) (number_at x) b i) (suc (max h k))) r)
-    step turns d zero r ih ik len room = absurd (omega arith)
-    step turns d (suc m) r ih ik len room = record {
+    node : Tall
+    node = tall (Tree.index (line_at x) (number_at x) b i) (suc (max h g))
+
+    more_ : List Sym
+    more_ = u ∷ (y ++ (v ∷ []))
+
+    step : (turns d m : ℕ) (r : List Sym) → h ≤ d → g ≤ d → length y < turns → suc d < m + h
+        → Comes (suc d) (suc (max h g)) x (subscripts d turns (expression turns d) m (line_at x) (number_at x) (tall b h) (u ∷ (y ++ (v ∷ r))))
+        (λ m l k. subscripts d turns (expression turns d) m l k node r)
+    step turns d zero r ih ig len room = absurd (omega arith)
+    step turns d (suc m) r ih ig len room = record {
       left = m;
       room = omega arith;
-      is = Equations.subscript_reads d turns (expression turns d) m (line_at x) (number_at x) (tall b h) y r opens ih (second.reads turns d (v ∷ r) ik len (close_bracket_stops shuts)) shuts;
+      is = Equations.subscript_reads d turns (expression turns d) m (line_at x) (number_at x) (tall b h) y r opens ih (second.reads turns d (v ∷ r) ig len (close_bracket_stops shuts)) shuts;
     }
 
-    at : (turns d : ℕ) (r : List Sym) → suc (max h k) ≤ suc d → length (x ++ (u ∷ (y ++ (v ∷ [])))) < turns → is_sign mark.OpenParen (head r) ≡ false
-        → Comes (suc d) (suc (max h k)) (unaries d turns (expression turns d) ((x ++ (u ∷ (y ++ (v ∷ [])))) ++ r))
-        (λ m. subscripts d turns (expression turns d) m (line_at (x ++ (u ∷ (y ++ (v ∷ []))))) (number_at (x ++ (u ∷ (y ++ (v ∷ []))))) (tall (Tree.index (line_at x) (number_at x) b i) (suc (max h k))) r)
+    at : (turns d : ℕ) (r : List Sym) → suc (max h g) ≤ suc d → length (x ++ more_) < turns → is_sign mark.OpenParen (head r) ≡ false
+        → Comes (suc d) (suc (max h g)) (x ++ more_) (unaries d turns (expression turns d) ((x ++ more_) ++ r)) (λ m l k. subscripts d turns (expression turns d) m l k node r)
     at turns d r ih len stop =
-        let c = first.opens turns d (u ∷ (y ++ (v ∷ r))) (omega arith) (omega (arith, length-append x (u ∷ (y ++ (v ∷ []))))) (no_open_paren opens) in
-        let g = step turns d c.left r (omega arith) (omega arith) (omega (arith, length-append x (u ∷ (y ++ (v ∷ []))), length-append y (v ∷ []))) c.room in
-        record {
-          left = g.left;
-          room = g.room;
-          is = ap (unaries d turns (expression turns d)) (append_assoc x (u ∷ (y ++ (v ∷ []))) r ∙ ap (λ z. x ++ (u ∷ z)) (append_assoc y (v ∷ []) r)) ∙ c.is ∙ g.is
-              ∙ ap (λ l. subscripts d turns (expression turns d) g.left l (number_at x) (tall (Tree.index (line_at x) (number_at x) b i) (suc (max h k))) r) (sym (same_line (u ∷ (y ++ (v ∷ []))) s))
-              ∙ ap (λ q. subscripts d turns (expression turns d) g.left (line_at (x ++ (u ∷ (y ++ (v ∷ []))))) q (tall (Tree.index (line_at x) (number_at x) b i) (suc (max h k))) r)
-              (sym (same_number (u ∷ (y ++ (v ∷ []))) s));
-        }
+        let c = first.opens turns d (u ∷ (y ++ (v ∷ r))) (omega arith) (omega (arith, length-append x more_)) (no_open_paren opens) in
+        along more_ s (from_there (ap (unaries d turns (expression turns d)) (append_assoc x more_ r ∙ ap (λ z. x ++ (u ∷ z)) (append_assoc y (v ∷ []) r)) ∙ c.is)
+        (step turns d c.left r (omega arith) (omega arith) (omega (arith, length-append x more_, length-append y (v ∷ []))) c.room))
 
 -- ---- arguments
 
