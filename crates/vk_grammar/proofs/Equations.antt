@@ -1,5 +1,5 @@
 -- What each reader of expressions tells of a text, given what is told of its parts.
-use Rattle.std.proofs.Common.{◌≡◌, ℕ, zero, suc, max, ◌≤◌, ◌<◌, true, false, List, [], ◌∷◌, ◌++◌, length, None, Ok, sym, arith, true≢false, le-leb}
+use Rattle.std.proofs.Common.{◌≡◌, ℕ, zero, suc, max, ◌≤◌, ◌<◌, Bool, true, false, List, [], ◌∷◌, ◌++◌, length, Option, None, Ok, refl, sym, arith, true≢false, le-leb}
 use Rattle.vk_types.specs.declared.types.Ty.{Ty}
 use Rattle.vk_ast.specs.declared.names.NameId.{NameId}
 use Rattle.vk_ast.specs.declared.expressions.BinOp.{BinOp}
@@ -7,6 +7,7 @@ use Rattle.vk_ast.specs.Tree.{Tree}
 use Rattle.vk_tokens.specs.declared.tokens.Mark.{Mark}
 use Rattle.vk_tokens.specs.declared.tokens.Mark.TheVariants as mark
 use Rattle.vk_grammar.specs.declared.symbols.Sym.{Sym}
+use Rattle.vk_grammar.specs.declared.symbols.SymKind.{SymKind}
 use Rattle.vk_grammar.specs.declared.symbols.SymKind.TheVariants as kind
 use Rattle.vk_grammar.specs.declared.symbols.Prefix.{Prefix}
 use Rattle.vk_grammar.specs.Symbols.{head, Is, IsSign, is_sign, same_mark, IsPrefix, prefix_at, prefix_of, IsOperator, operator_at, is_type_part}
@@ -18,6 +19,19 @@ use Rattle.vk_grammar.proofs.Signs.{sign_is}
 
 pub expect_reads : {m : Mark} {t : Sym} {r : List Sym} → IsSign m t → expect m (t ∷ r) ≡ Ok (t, r)
 expect_reads {m} {t} {r} i = rw (sign_is i)
+
+-- ---- lists of items
+
+pub many_end : {A : Type 0} (test : Option SymKind → Bool) (item : Parser A) (n : ℕ) (r : List Sym) → test (head r) ≡ false → many (suc n) test item r ≡ Ok ([], r)
+unfolding many
+many_end test item n r e = rw e
+
+pub many_more : {A : Type 0} {a : A} {list : List A} (test : Option SymKind → Bool) (item : Parser A) (n : ℕ) (w y r : List Sym) → test (head w) ≡ true → item w ≡ Ok (a, y)
+    → many n test item y ≡ Ok (list, r) → many (suc n) test item w ≡ Ok (a ∷ list, r)
+unfolding many
+many_more test item n w y r e i f = rw (e, i, f)
+
+-- ---- one function after the other
 
 module _ (d turns : ℕ) (sub : Sort → Parser Tall) where
   pub int_reads : {t : Sym} {ty : Ty} {n : ℕ} (r : List Sym) → Is (kind.Int ty n) t
@@ -96,22 +110,16 @@ module _ (d turns : ℕ) (sub : Sort → Parser Tall) where
   unfolding arguments some_arguments
   arguments_read w y r i e f = rw (i, e, f)
 
-  pub no_more_arguments : (n : ℕ) (r : List Sym) → is_sign mark.Comma (head r) ≡ false → many (suc n) (is_sign mark.Comma) (later_argument d turns sub) r ≡ Ok ([], r)
-  unfolding many
-  no_more_arguments n r i = rw i
-
-  pub more_arguments : {t : Sym} {e : Tall} {list : List Tall} (n : ℕ) (w y r : List Sym) → IsSign mark.Comma t → sub full w ≡ Ok (e, y)
-      → many n (is_sign mark.Comma) (later_argument d turns sub) y ≡ Ok (list, r) → many (suc n) (is_sign mark.Comma) (later_argument d turns sub) (t ∷ w) ≡ Ok (e ∷ list, r)
-  unfolding many later_argument
-  more_arguments n w y r i e f = rw (sign_is i, e, f)
+  pub later_reads : {t : Sym} {e : Tall} (w y : List Sym) → IsSign mark.Comma t → sub full w ≡ Ok (e, y) → later_argument d turns sub (t ∷ w) ≡ Ok (e, y)
+  unfolding later_argument
+  later_reads w y i e = e
 
 -- ---- types
 
 pub parts_read : {c : List Sym} (n : ℕ) (r : List Sym) → AreTypeParts c → length c < n → is_type_part (head r) ≡ false → many n is_type_part take (c ++ r) ≡ Ok (c, r)
-unfolding many
 parts_read zero r d i e = absurd (omega arith)
-parts_read (suc n) r no_parts i e = rw e
-parts_read (suc n) r (a_part {t = t} {rest = rest} p d) i e = rw (p, parts_read n r d (omega arith) e)
+parts_read (suc n) r no_parts i e = many_end is_type_part take n r e
+parts_read (suc n) r (a_part {t = t} {rest = rest} p d) i e = many_more is_type_part take n (t ∷ (rest ++ r)) (rest ++ r) r p refl (parts_read n r d (omega arith) e)
 
 pub words_read : {c : List Sym} (turns : ℕ) (r : List Sym) → IsType c → length c < turns → is_type_part (head r) ≡ false → type_words turns (c ++ r) ≡ Ok (c, r)
 unfolding type_words

@@ -188,7 +188,7 @@ into_follows {A} {S} {R} {c} {p} {w} into h = record { told = go h.told }
 
 -- `p` reads behind `i`, which stands behind `k`; the whole stands behind `c`
 module _ {A B : Type 0} (S : A → List Sym → Type 0) (R : B → List Sym → Type 0) (k i c : List Sym) (where_ : c ≡ k ++ i) (p : Parser A) (f : A → Parser B) (w : List Sym)
-    (next : (a : A) (v r : List Sym) → w ≡ v ++ r → S a (i ++ v) → Follows R (c ++ v) (f a) r) (ends : (a : A) (y : List Sym) → S a y → Goes R (k ++ y)) where
+    (next : (a : A) (v r : List Sym) → w ≡ v ++ r → p w ≡ Ok (a, r) → S a (i ++ v) → Follows R (c ++ v) (f a) r) (ends : (a : A) (y : List Sym) → S a y → Goes R (k ++ y)) where
   goes_on : (u : List Sym) → Goes S u → Goes R (k ++ u)
   goes_on u g = let h : Goes R (k ++ (u ++ g.after)) = ends g.value (u ++ g.after) g.is in
       goes (g.after ++ h.after) h.value (subst (R h.value) (ap (λ z. z ++ h.after) (sym (append_assoc k u g.after)) ∙ append_assoc (k ++ u) g.after h.after) h.is)
@@ -216,7 +216,7 @@ module _ {A B : Type 0} (S : A → List Sym → Type 0) (R : B → List Sym → 
   on_told : (answer : Answer A) (read rest text : List Sym) → w ≡ read ++ rest → text ≡ i ++ read
       → ((s : List Sym) → front s ≡ front rest → p (read ++ s) ≡ given answer s) → Meant S text answer rest → Follows R c (p >>= f) w
   unfolding on_read goes_on
-  on_told (Read a) read rest text parts joined stable meant = on_read a read rest parts stable (next a read rest parts (subst (S a) joined meant)).told
+  on_told (Read a) read rest text parts joined stable meant = on_read a read rest parts stable (next a read rest parts (ap p parts ∙ stable rest refl) (subst (S a) joined meant)).told
   on_told Refused read rest text parts joined stable meant = record {
     told = inr (record {
       answer = Refused;
@@ -252,13 +252,19 @@ module _ {A B : Type 0} (S : A → List Sym → Type 0) (R : B → List Sym → 
 pub bind_follows : {A B : Type 0} {S : A → List Sym → Type 0} {R : B → List Sym → Type 0} {c : List Sym} {p : Parser A} {f : A → Parser B} {w : List Sym}
     → Follows S [] p w → ((a : A) (v r : List Sym) → w ≡ v ++ r → S a v → Follows R (c ++ v) (f a) r) → ((a : A) (v : List Sym) → S a v → Goes R (c ++ v))
     → Follows R c (p >>= f) w
-bind_follows {S} {R} {c} {p} {f} {w} h next ends = on_step S R c [] c (sym (append-nil c)) p f w next ends h.told
+bind_follows {S} {R} {c} {p} {f} {w} h next ends = on_step S R c [] c (sym (append-nil c)) p f w (λ a v r parts is. next a v r parts) ends h.told
 
 -- the same where the first reader too stands behind `c`
 pub seq_follows : {A B : Type 0} {S : A → List Sym → Type 0} {R : B → List Sym → Type 0} {c : List Sym} {p : Parser A} {f : A → Parser B} {w : List Sym}
     → Follows S c p w → ((a : A) (v r : List Sym) → w ≡ v ++ r → S a (c ++ v) → Follows R (c ++ v) (f a) r) → ((a : A) (y : List Sym) → S a y → Goes R y)
     → Follows R c (p >>= f) w
-seq_follows {S} {R} {c} {p} {f} {w} h next ends = on_step S R [] c c refl p f w next ends h.told
+seq_follows {S} {R} {c} {p} {f} {w} h next ends = on_step S R [] c c refl p f w (λ a v r parts is. next a v r parts) ends h.told
+
+-- as `bind_follows`, where how it goes on rests on what the first reader leaves
+pub bind_is_follows : {A B : Type 0} {S : A → List Sym → Type 0} {R : B → List Sym → Type 0} {c : List Sym} {p : Parser A} {f : A → Parser B} {w : List Sym}
+    → Follows S [] p w → ((a : A) (v r : List Sym) → w ≡ v ++ r → p w ≡ Ok (a, r) → S a v → Follows R (c ++ v) (f a) r) → ((a : A) (v : List Sym) → S a v → Goes R (c ++ v))
+    → Follows R c (p >>= f) w
+bind_is_follows {S} {R} {c} {p} {f} {w} h next ends = on_step S R c [] c (sym (append-nil c)) p f w next ends h.told
 
 -- a token that is there
 pub take_follows : {B : Type 0} {R : B → List Sym → Type 0} {c : List Sym} {f : Sym → Parser B} {t : Sym} {r : List Sym}

@@ -14,6 +14,7 @@ use Rattle.vk_grammar.specs.Types.{IsType, type_in}
 use Rattle.vk_grammar.specs.Grammar.{Tall, tall, trees_in, greatest, Sort, level, full, Spells, IsPost, AreArgs, AreMore, prefixed, a_prefix, a_cast, a_post, lower, a_binary, plain, a_choice, an_int, a_name, a_call, a_group, an_index, no_args, some_args, none_more, one_more}
 use Rattle.vk_grammar.specs.Parser.{Fault, then_do, many}
 use Rattle.vk_grammar.specs.Reading.{later_argument, arguments, subscripts, unaries, operators, levels, choices, conditional, expression}
+use Rattle.vk_grammar.proofs.Signs.{sign_is}
 use Rattle.vk_grammar.proofs.Starts.{Starts, spelled_starts, post_starts}
 use Rattle.vk_grammar.proofs.Stops.{StopsAt, StopsAll, Stops, lower_stops, close_paren_stops, close_bracket_stops, comma_stops, colon_stops, question_stops, no_open_paren, operator_stops, start_no_sign, start_no_type}
 use Rattle.vk_grammar.proofs.Equations
@@ -260,7 +261,7 @@ none_more_read = record { reads = at }
     at : (turns d n : ℕ) (r : List Sym) → 0 ≤ d → 0 < turns → 0 < n → StopsAll (head r) → is_sign mark.Comma (head r) ≡ false
         → many n (is_sign mark.Comma) (later_argument d turns (expression turns d)) r ≡ Ok ([], r)
     at turns d zero r ih len less stops stop = absurd (omega arith)
-    at turns d (suc n) r ih len less stops stop = Equations.no_more_arguments d turns (expression turns d) n r stop
+    at turns d (suc n) r ih len less stops stop = Equations.many_end (is_sign mark.Comma) (later_argument d turns (expression turns d)) n r stop
 
 one_more_read : {t : Sym} {e : Tree} {h : ℕ} {list : List Tall} {x y : List Sym} → IsSign mark.Comma t → ReadsAs full e h x → AreMore list y → MoreAs list y → MoreAs (tall e h ∷ list) ((t ∷ x) ++ y)
 one_more_read {t} {e} {h} {list} {x} {y} i read d more_ = record { reads = at }
@@ -268,9 +269,10 @@ one_more_read {t} {e} {h} {list} {x} {y} i read d more_ = record { reads = at }
     at : (turns d' n : ℕ) (r : List Sym) → max h (greatest list) ≤ d' → length ((t ∷ x) ++ y) < turns → length ((t ∷ x) ++ y) < n → StopsAll (head r) → is_sign mark.Comma (head r) ≡ false
         → many n (is_sign mark.Comma) (later_argument d' turns (expression turns d')) (((t ∷ x) ++ y) ++ r) ≡ Ok (tall e h ∷ list, r)
     at turns d' zero r ih len less stops stop = absurd (omega arith)
-    at turns d' (suc n) r ih len less stops stop = ap (λ z. many (suc n) (is_sign mark.Comma) (later_argument d' turns (expression turns d')) (t ∷ z)) (append_assoc x y r)
-        ∙ Equations.more_arguments d' turns (expression turns d') n (x ++ (y ++ r)) (y ++ r) r i
-        (read.reads turns d' (y ++ r) (omega arith) (omega (arith, length-append x y)) (more_stops r d stops))
+    at turns d' (suc n) r ih len less stops stop =
+        Equations.many_more (is_sign mark.Comma) (later_argument d' turns (expression turns d')) n (t ∷ ((x ++ y) ++ r)) (y ++ r) r (sign_is i)
+        (Equations.later_reads d' turns (expression turns d') ((x ++ y) ++ r) (y ++ r) i (ap (expression turns d' full) (append_assoc x y r)
+        ∙ read.reads turns d' (y ++ r) (omega arith) (omega (arith, length-append x y)) (more_stops r d stops)))
         (more_.reads turns d' n r (omega arith) (omega (arith, length-append x y)) (omega (arith, length-append x y)) stops stop)
 
 -- ---- unary operators and casts
