@@ -7,7 +7,7 @@ use Rattle.std.specs.List.{IsDistinct, AllByRecursion, list_any}
 use Rattle.std.specs.Option.{option_map, unwrap_or}
 use Rattle.std.proofs.lemmas.Bool.{cases_Bool}
 use Rattle.std.proofs.lemmas.List.{map-append}
-use Rattle.std.proofs.lemmas.Option.{slice_get-map, slice_get-get_or, none-some}
+use Rattle.std.proofs.lemmas.Option.{slice_get-map, slice_get-get_or, slice_get_within, none-some}
 use Rattle.std.proofs.lemmas.List.Quantifiers.{position-Some}
 use Rattle.std.proofs.lemmas.Map.Keys.{IsDistinct-head, IsDistinct-tail}
 use Rattle.indexmap.specs.IndexSet.{insert_key}
@@ -42,7 +42,7 @@ distinct (x ∷ keys) d (suc j) (suc k) text e f = ap suc (distinct keys (IsDist
 -- a text that is there leaves the table
 pub there : (text : List ℕ) (keys : List (Vec ℕ)) (i : ℕ) → position (λ key. pointwise nat_eq text key.items) keys ≡ Some i → IsDistinct same keys
     → IsAdded (map items_of keys) (map items_of keys) text i
-there text keys i e d = record { has = found text keys i e; keeps = λ k t f. f; grows = inl refl; distinct = distinct keys d }
+there text keys i e d = record { has = found text keys i e; within = slice_get_within (map items_of keys) i text (found text keys i e); keeps = λ k t f. f; grows = inl refl; distinct = distinct keys d }
 
 before : (texts : List (List ℕ)) (text : List ℕ) (k : ℕ) (t : List ℕ) → slice_get texts k ≡ Some t → slice_get (texts ++ text ∷ []) k ≡ Some t
 before [] text k t e = absurd (none-some _ e)
@@ -53,7 +53,8 @@ before (x ∷ texts) text (suc k) t e = before texts text k t e
 pub added : (key : Vec ℕ) (keys new : List (Vec ℕ)) (i : ℕ) → new ≡ insert_key same keys key → IsDistinct same new
     → ((k : Vec ℕ) × (slice_get new i ≡ Some k) × (same key k ≡ true)) → IsAdded (map items_of keys) (map items_of new) key.items i
 added key keys new i e d stored = record {
-  has = slice_get-map items_of new i ∙ ap (option_map items_of) stored.1 ∙ ap Some (sym (same_text key.items (stored.0).items (sym stored.2)));
+  has = has;
+  within = slice_get_within (map items_of new) i key.items has;
   keeps = λ k t f. elim grown [
     | inl is ↦ ap (λ ts. slice_get ts k) is ∙ f
     | inr is ↦ ap (λ ts. slice_get ts k) is ∙ before (map items_of keys) key.items k t f
@@ -62,6 +63,9 @@ added key keys new i e d stored = record {
   distinct = distinct new d;
 }
   where
+    has : slice_get (map items_of new) i ≡ Some key.items
+    has = slice_get-map items_of new i ∙ ap (option_map items_of) stored.1 ∙ ap Some (sym (same_text key.items (stored.0).items (sym stored.2)))
+
     grown : (map items_of new ≡ map items_of keys) ⊎ (map items_of new ≡ map items_of keys ++ key.items ∷ [])
     grown = elim (cases_Bool (list_any (same key) keys)) [
       | inl t ↦ inl (ap (map items_of) (e ∙ ap (λ b. if b then keys else keys ++ key ∷ []) t))

@@ -1,2 +1,5 @@
+pub mod Directives
 pub mod Names
+pub mod Statements
 pub mod Tree
+pub mod Units

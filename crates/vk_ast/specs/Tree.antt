@@ -1,5 +1,5 @@
 -- Expressions as trees without pointers, each node with the line and the number of its first token.
-use Rattle.std.specs.Prelude.{ℕ}
+use Rattle.std.specs.Prelude.{ℕ, ◌+◌, List, [], ◌∷◌}
 use Rattle.vk_types.specs.declared.types.Ty.{Ty}
 use Rattle.vk_ast.specs.declared.names.NameId.{NameId}
 use Rattle.vk_ast.specs.declared.expressions.UnOp.{UnOp}
@@ -45,3 +45,26 @@ abbrev mutual
 
 abbrev pub expr_of : Expr → Tree
 expr_of e = kind_of e.kind e.line e.token
+
+-- the trees of a list of expressions
+abbrev pub exprs_of : List Expr → Trees
+exprs_of [] = no_trees
+exprs_of (e ∷ es) = more_trees (expr_of e) (exprs_of es)
+
+-- how many nodes a tree has, and those of a list
+abbrev mutual
+  pub nodes_of : Tree → ℕ
+  nodes_of (int l k t value) = 1
+  nodes_of (name l k id) = 1
+  nodes_of (index l k base subscript) = 1 + nodes_of base + nodes_of subscript
+  nodes_of (deref l k operand) = 1 + nodes_of operand
+  nodes_of (addr l k operand) = 1 + nodes_of operand
+  nodes_of (unary l k op operand) = 1 + nodes_of operand
+  nodes_of (binary l k op left right) = 1 + nodes_of left + nodes_of right
+  nodes_of (choice l k condition first second) = 1 + nodes_of condition + nodes_of first + nodes_of second
+  nodes_of (cast l k t operand) = 1 + nodes_of operand
+  nodes_of (call l k id arguments) = 1 + all_nodes arguments
+
+  pub all_nodes : Trees → ℕ
+  all_nodes no_trees = 0
+  all_nodes (more_trees e es) = nodes_of e + all_nodes es

@@ -8,10 +8,15 @@ pub mod directives;
 pub mod expressions;
 pub mod items;
 pub mod names;
+pub mod nodes;
 pub mod statements;
 
 pub use directives::{Clause, ClauseKind, Directive, Modifier};
 pub use expressions::{BinOp, Expr, ExprKind, UnOp};
 pub use items::{Function, Item, Object, ParamDecl, Unit};
 pub use names::{Memory, NameId, NameTable};
+pub use nodes::{expr_nodes, function_nodes, stmt_nodes};
 pub use statements::{Stmt, StmtKind};
+
+#[cfg(test)]
+mod tests;

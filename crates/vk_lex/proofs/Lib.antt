@@ -1,0 +1,4 @@
+mod Gaps
+mod Fronts
+mod Values
+mod Words
