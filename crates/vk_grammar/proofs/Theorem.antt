@@ -3,7 +3,7 @@ use Rattle.std.proofs.Common.{◌≡◌, ℕ, suc, ◌+◌, ◌≤◌, ◌<◌, 
 use Rattle.vk_ast.specs.Tree.{Tree}
 use Rattle.vk_grammar.specs.declared.symbols.Sym.{Sym}
 use Rattle.vk_grammar.specs.Grammar.{Tall, tall, full, Spells, IsExpression, IsExpressionWithin}
-use Rattle.vk_grammar.specs.Parser.{Fault, Syntax, Deep, Parser, then_do, at_end}
+use Rattle.vk_grammar.specs.Parser.{Fault, Syntax, Deep, Spent, Parser, then_do, at_end}
 use Rattle.vk_grammar.specs.Reading.{expression, whole_expression}
 use Rattle.vk_grammar.specs.Texts.{IsPlace, IsDeepPlace}
 use Rattle.vk_grammar.proofs.Steps.{Follows}
@@ -54,8 +54,29 @@ found turns d ts e r is =
     let g = reading_of (expression_follows turns d full ts) (ended e r (expression turns d full ts) is) in
     subst (Spells full e.tree e.height) (sym (g.parts ∙ append-nil g.read)) g.is
 
+-- more turns change nothing
+more_turns : (turns more d : ℕ) (ts : List Sym) (e : Tall) (r : List Sym) → turns ≤ more → whole_expression turns d ts ≡ Ok (e, r) → whole_expression more d ts ≡ Ok (e, r)
+more_turns turns more d ts e r i is = uncut (grown false turns more d d i (record { above = omega arith; same = λ f. refl })) ts is (λ c. c)
+
 pub within : (turns d : ℕ) (ts : List Sym) (e : Tall) (r : List Sym) → whole_expression turns d ts ≡ Ok (e, r) → e.height ≤ d
-within turns d ts e r is = subst (OnRead (Within d)) (ended e r (expression turns d full ts) is) ((expression_keeps turns d full).keeps ts)
+within turns d ts e r is =
+    let more : ℕ = turns + suc (length ts) in
+    let at : expression more d full ts ≡ Ok (e, []) = ended e r (expression more d full ts) (more_turns turns more d ts e r (omega arith) is) in
+    (subst (OnRead (Within d) 1 (length ts)) at ((expression_keeps more d full).keeps ts (omega arith))).0.most
+
+-- The turns are never spent where they are more than the tokens.
+pub never_spent : (turns d : ℕ) (ts : List Sym) → length ts < turns → whole_expression turns d ts ≡ Err Spent → ⊥
+never_spent turns d ts l = on (expression turns d full ts) ((expression_keeps turns d full).keeps ts l)
+  where
+    on_end : (a : Tall) (s : List Sym) → at_end a s ≡ Err Spent → ⊥
+    on_end a [] e = cc
+    on_end a (t ∷ s) e = cc
+
+    on : (o : Result (Tall × List Sym) Fault) → OnRead (Within d) 1 (length ts) o → then_do o at_end ≡ Err Spent → ⊥
+    on (Ok read) h e = on_end read.0 read.1 e
+    on (Err (Syntax n)) h e = cc
+    on (Err (Deep n)) h e = cc
+    on (Err Spent) h e = h
 
 -- A refusal is at the first token that no text of the grammar has there.
 pub refused : (turns d : ℕ) (ts : List Sym) (n : ℕ) → whole_expression turns d ts ≡ Err (Syntax n) → IsPlace IsExpression ts n

@@ -4,7 +4,7 @@ ghost use Rattle.std.specs.Prelude.{◌≡◌, ◌≤◌, ◌<◌, ℕ, List, []
 ghost use Rattle.vk_ast.specs.Tree.{Tree};
 ghost use Rattle.vk_grammar.specs.declared.symbols.Sym.{Sym};
 ghost use Rattle.vk_grammar.specs.Grammar.{Tall, tall, full, Spells, IsExpression, IsExpressionWithin};
-ghost use Rattle.vk_grammar.specs.Parser.{Syntax, Deep};
+ghost use Rattle.vk_grammar.specs.Parser.{Syntax, Deep, Spent};
 ghost use Rattle.vk_grammar.specs.Reading.{whole_expression};
 ghost use Rattle.vk_grammar.specs.Texts.{IsPlace, IsDeepPlace};
 
@@ -22,6 +22,7 @@ pub fn whole_expressions()
         → IsPlace IsExpression ts n }
     ensures deep { (turns d : ℕ) (ts : List Sym) (n : ℕ) → whole_expression turns d ts ≡ Err (Deep n)
         → IsDeepPlace IsExpression (IsExpressionWithin d) ts n }
+    ensures ends { (turns d : ℕ) (ts : List Sym) → length ts < turns → whole_expression turns d ts ≡ Err Spent → ⊥ }
 {}
 
 /// A list of tokens is the text of at most one tree, with one height.
