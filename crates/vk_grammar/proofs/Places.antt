@@ -1,5 +1,6 @@
 -- The places of faults: what a reader tells at its end, against all texts of a grammar.
-use Rattle.std.proofs.Common.{◌≡◌, ℕ, suc, ◌⊎◌, inl, inr, List, [], ◌∷◌, ◌++◌, length, Some, None, Ok, Err, refl, sym, ap, ◌∙◌, subst, append-nil, length-append, arith}
+use Rattle.std.proofs.Common.{◌≡◌, ◌<◌, ℕ, suc, ◌⊎◌, inl, inr, List, [], ◌∷◌, ◌++◌, length, Some, None, Ok, Err, refl, sym, ap, ◌∙◌, subst, append_assoc, append-nil, length-append, arith}
+use Rattle.std.proofs.lemmas.Bool.{cases_order}
 use Rattle.vk_grammar.specs.declared.symbols.Sym.{Sym}
 use Rattle.vk_grammar.specs.Parser.{Fault, Syntax, Deep, Spent, Parser, at_end, whole}
 use Rattle.vk_grammar.specs.Texts.{IsDead, IsPlace, IsDeepPlace}
@@ -172,3 +173,46 @@ is_deep_place {A} {R} {Text} {Kept} {p} {w} {n} h e text larger = go (deep_refus
       alive = (q.alive.after, text q.alive.value ((q.before ++ (q.at ∷ [])) ++ q.alive.after) q.alive.is);
       deep = against q.before q.rest q.at q.parts q.left;
     }
+
+-- ---- a place is one, and where there is one there is no text
+
+pub place_no_text : {Text : List Sym → Type 0} {w : List Sym} {n : ℕ} → IsPlace Text w n → Text w → ⊥
+place_no_text {Text} {w} p t = go p.before p.rest p.parts p.dead
+  where
+    go : (v s : List Sym) → w ≡ v ++ s → IsDead Text v s → ⊥
+    go v [] parts dead = dead (subst Text (parts ∙ append-nil v) t)
+    go v (u ∷ s) parts dead = dead s (subst Text parts t)
+
+-- the second way to part a list leaves more
+record Between (a b c d : List Sym) : Type 0 where
+  first : Sym
+  others : List Sym
+  longer : a ≡ c ++ (first ∷ others)
+  rests : d ≡ first ∷ (others ++ b)
+
+between : (a b c d : List Sym) → a ++ b ≡ c ++ d → length b < length d → Between a b c d
+between [] b [] d e l = absurd (omega (arith, ap length e))
+between [] b (y ∷ c) d e l = absurd (omega (arith, ap length e, length-append c d))
+between (x ∷ a) b [] d e l = record { first = x; others = a; longer = refl; rests = sym e }
+between (x ∷ a) b (y ∷ c) d e l =
+    let tails : a ++ b ≡ c ++ d = cc in
+    let heads : x ≡ y = cc in
+    let g = between a b c d tails l in
+    record { first = g.first; others = g.others; longer = ap (λ z. x ∷ z) g.longer ∙ ap (λ z. z ∷ (c ++ (g.first ∷ g.others))) heads; rests = g.rests }
+
+no_later_place : {Text : List Sym → Type 0} {w : List Sym} {n m : ℕ} → IsPlace Text w n → IsPlace Text w m → n < m → ⊥
+no_later_place {Text} {w} {n} {m} p q l = go q.before q.rest q.dead (between p.before p.rest q.before q.rest (sym p.parts ∙ q.parts) (omega (arith, p.left, q.left)))
+  where
+    go : (v s : List Sym) → IsDead Text v s → Between p.before p.rest v s → ⊥
+    go v [] dead b = let rests = b.rests in absurd (cc)
+    go v (t ∷ s) dead b =
+        let same : b.first ≡ t = let rests = b.rests in cc in
+        dead (b.others ++ p.alive.0) (subst Text (ap (λ z. z ++ p.alive.0) (b.longer ∙ ap (λ z. v ++ (z ∷ b.others)) same) ∙ append_assoc v (t ∷ b.others) p.alive.0) p.alive.1)
+
+pub one_place : {Text : List Sym → Type 0} {w : List Sym} {n m : ℕ} → IsPlace Text w n → IsPlace Text w m → n ≡ m
+one_place {n = n} {m = m} p q = go (cases_order n m)
+  where
+    go : (n ≡ m) ⊎ ((n < m) ⊎ (m < n)) → n ≡ m
+    go (inl e) = e
+    go (inr (inl l)) = absurd (no_later_place p q l)
+    go (inr (inr l)) = absurd (no_later_place q p l)
