@@ -188,11 +188,11 @@ module _ (deep : Bool) (d e turns more_turns : ℕ) (room : Room deep d e) (turn
   unfolding paren
   paren_grows = height_grows 1 room (bind_grows same_grows behind_paren_grows)
 
-  unaries_grow : Grows deep (unaries d turns sub) (unaries e more_turns sup)
+  pub unaries_grow : Grows deep (unaries d turns sub) (unaries e more_turns sup)
   unfolding unaries
   unaries_grow = look_grows (λ k. pick_some_grows (prefix_at k) prefix_sign_grows (pick_grows (is_sign mark.OpenParen k) paren_grows post_grows))
 
-  operators_grow : (n m r l k : ℕ) (a : Tall) → n ≤ m → Grows deep (operators d turns sub n r l k a) (operators e more_turns sup m r l k a)
+  pub operators_grow : (n m r l k : ℕ) (a : Tall) → n ≤ m → Grows deep (operators d turns sub n r l k a) (operators e more_turns sup m r l k a)
   unfolding operators operator_step right_operand
   operators_grow zero m r l k a i = spent_grows
   operators_grow (suc n) zero r l k a i = absurd (omega arith)
@@ -205,7 +205,7 @@ module _ (deep : Bool) (d e turns more_turns : ℕ) (room : Room deep d e) (turn
   levels_grow zero = unaries_grow
   levels_grow (suc n) = here_grows (λ l k. bind_grows (levels_grow n) (λ a. operators_grow (suc d) (suc e) n l k a (suc-le-suc room.above)))
 
-  choices_grow : (l k : ℕ) (c : Tall) → Grows deep (choices d turns sub l k c) (choices e more_turns sup l k c)
+  pub choices_grow : (l k : ℕ) (c : Tall) → Grows deep (choices d turns sub l k c) (choices e more_turns sup l k c)
   unfolding choices branches
   choices_grow l k c = choose_grows (is_sign mark.Question)
       (height_grows c.height room (bind_grows same_grows (λ t. bind_grows (subs full) (λ a. bind_grows same_grows (λ v. bind_grows (subs full) (λ b. same_grows))))))

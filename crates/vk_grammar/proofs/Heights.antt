@@ -209,11 +209,11 @@ module _ (d turns : ℕ) (sub : Sort → Parser Tall) (subs : (s : Sort) → Kee
   prefix_sign_keeps p = limit_keeps (nat_lt 0 d) (λ e. bind_keeps take_keeps (λ t _. bind_keeps {P = Within d} (weaken (subs (level 0)))
       (λ a i. pure_keeps (record { some_ = omega arith; most = omega arith }))))
 
-  unaries_keep : Keeps turns 1 (Within (suc d)) (unaries d turns sub)
+  pub unaries_keep : Keeps turns 1 (Within (suc d)) (unaries d turns sub)
   unfolding unaries
   unaries_keep = look_keeps (λ k. pick_some_keeps (prefix_at k) prefix_sign_keeps (pick_keeps (is_sign mark.OpenParen k) paren_keeps post_keeps))
 
-  operators_keep : (m n l k : ℕ) (a : Tall) → Within (suc d) a → suc d < m + a.height → Keeps turns 0 (Within (suc d)) (operators d turns sub m n l k a)
+  pub operators_keep : (m n l k : ℕ) (a : Tall) → Within (suc d) a → suc d < m + a.height → Keeps turns 0 (Within (suc d)) (operators d turns sub m n l k a)
   unfolding operators operator_step right_operand
   operators_keep zero n l k a i room = absurd (omega arith)
   operators_keep (suc m) n l k a i room = choose_some_keeps (operator_at (suc n))
@@ -232,7 +232,7 @@ module _ (d turns : ℕ) (sub : Sort → Parser Tall) (subs : (s : Sort) → Kee
   branches_keep l k c pos i = weaken (bind_keeps take_keeps (λ _ _. bind_keeps {P = Within d} (weaken (subs full)) (λ a h. weaken (bind_keeps (expect_keeps mark.Colon)
       (λ _ _. bind_keeps {P = Within d} (weaken (subs full)) (λ b j. pure_keeps (record { some_ = omega arith; most = omega arith })))))))
 
-  choices_keep : (l k : ℕ) (c : Tall) → Within (suc d) c → Keeps turns 0 (Within (suc d)) (choices d turns sub l k c)
+  pub choices_keep : (l k : ℕ) (c : Tall) → Within (suc d) c → Keeps turns 0 (Within (suc d)) (choices d turns sub l k c)
   unfolding choices
   choices_keep l k c i = choose_keeps (is_sign mark.Question) (limit_keeps (nat_le c.height d) (λ e. branches_keep l k c i.some_ (leb-true c.height d e))) (pure_keeps i)
 

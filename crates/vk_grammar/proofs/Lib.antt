@@ -10,3 +10,4 @@ pub mod Equations
 pub mod Whole
 pub mod Places
 pub mod Theorem
+pub mod Climb

@@ -203,7 +203,7 @@ module _ (d turns : ℕ) (sub : Sort → Parser Tall) (subs : (s : Sort) (w : Li
       (λ a x r2 parts s. pure_follows (a_prefix is s)) (λ a x s. finished (tall (prefixed p t.line t.at a.tree) (suc a.height)) (a_prefix is s))))
       (λ _. prefix_deep_follows e (λ t is. prefix_goes t p is))
 
-  unaries_follows : (w : List Sym) → Follows (Spelled (level 0)) [] (unaries d turns sub) w
+  pub unaries_follows : (w : List Sym) → Follows (Spelled (level 0)) [] (unaries d turns sub) w
   unfolding unaries
   unaries_follows w = look_follows (λ k. pick_some (prefix_at k) (prefix_sign d turns sub) (pick (is_sign mark.OpenParen k) (paren d turns sub) (post d turns sub)))
       (pick_some_follows (prefix_at (head w)) (λ p e. prefix_sign_follows p w e)
@@ -216,7 +216,7 @@ module _ (d turns : ℕ) (sub : Sort → Parser Tall) (subs : (s : Sort) (w : Li
   joined_by {n} {o} {a} {b} {h} {k} {t} {x} {u} {y} s is s2 = subst (λ z. Spells (level (suc n)) (Tree.binary t.line t.at o a b) (suc (max h k)) (t ∷ z))
       (sym (append_assoc x (u ∷ []) y)) (a_binary s is s2)
 
-  operators_follows : (m n : ℕ) (t : Sym) (x : List Sym) (a : Tall) (w : List Sym) → Spells (level (suc n)) a.tree a.height (t ∷ x)
+  pub operators_follows : (m n : ℕ) (t : Sym) (x : List Sym) (a : Tall) (w : List Sym) → Spells (level (suc n)) a.tree a.height (t ∷ x)
       → Follows (Spelled (level (suc n))) (t ∷ x) (operators d turns sub m n t.line t.at a) w
   unfolding operators operator_step right_operand
   operators_follows zero n t x a w s = record { told = inl refl }
@@ -242,7 +242,7 @@ module _ (d turns : ℕ) (sub : Sort → Parser Tall) (subs : (s : Sort) (w : Li
   chosen {c} {a} {b} {h} {k} {m} {t} {x} {u} {y} {v} {z} s1 i s2 j s3 = subst (λ q. Spells full (Tree.choice t.line t.at c a b) (suc (max h (max k m))) (t ∷ q))
       (sym (append_assoc ((x ++ (u ∷ [])) ++ y) (v ∷ []) z ∙ append_assoc (x ++ (u ∷ [])) y (v ∷ z) ∙ append_assoc x (u ∷ []) (y ++ (v ∷ z)))) (a_choice s1 i s2 j s3)
 
-  choices_follows : (t : Sym) (x : List Sym) (c : Tall) (w : List Sym) → Spells (level 10) c.tree c.height (t ∷ x) → Follows (Spelled full) (t ∷ x) (choices d turns sub t.line t.at c) w
+  pub choices_follows : (t : Sym) (x : List Sym) (c : Tall) (w : List Sym) → Spells (level 10) c.tree c.height (t ∷ x) → Follows (Spelled full) (t ∷ x) (choices d turns sub t.line t.at c) w
   unfolding choices branches
   choices_follows t x c w s = choose_follows (is_sign mark.Question)
       (λ e. pick_follows (nat_le c.height d)

@@ -121,6 +121,15 @@ module _ (d turns : ℕ) (sub : Sort → Parser Tall) where
   unfoldable pub conditional : Parser Tall
   conditional = here (λ l k. levels 10 >>= choices l k)
 
+  -- What goes on behind an operand of level 0 that was read: the operators of the levels 1 to `n`, and all of a `cond`. So
+  -- what begins with such an operand and may be no expression is read by it first.
+  unfoldable pub climb : (n l k : ℕ) → Tall → Parser Tall
+  climb zero l k a = pure a
+  climb (suc n) l k a = climb n l k a >>= operators (suc d) n l k
+
+  unfoldable pub onwards : (l k : ℕ) → Tall → Parser Tall
+  onwards l k a = climb 10 l k a >>= choices l k
+
   abbrev pub sorted : Sort → Parser Tall
   sorted (level n) = levels n
   sorted full = conditional

@@ -25,7 +25,8 @@ pub fn whole_expressions()
     ensures ends { (turns d : ℕ) (ts : List Sym) → length ts < turns → whole_expression turns d ts ≡ Err Spent → ⊥ }
 {}
 
-/// A list of tokens is the text of at most one tree, with one height, and has at most one place of C5, and none where it is a text.
+/// A list of tokens is the text of at most one tree, with one height. It has at most one place of C5, and none where it is
+/// a text.
 pub fn one_expression()
     ensures tree { (ts : List Sym) (e f : Tree) (h k : ℕ) → Spells full e h ts → Spells full f k ts → tall e h ≡ tall f k }
     ensures place { (ts : List Sym) (n m : ℕ) → IsPlace IsExpression ts n → IsPlace IsExpression ts m → n ≡ m }
