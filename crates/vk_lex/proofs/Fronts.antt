@@ -1,20 +1,20 @@
 -- What stands at the front of a text, by its first byte.
-use Rattle.std.proofs.Common.{◌≡◌, ℕ, true, false, List, [], ◌∷◌, take, drop, length, Option, Some, None, Result, Ok, Err, ◌≢◌, ◌==◌, ◌≤◌, refl, sym, ap, ap₂, subst, ◌∙◌, arith}
+use Rattle.std.proofs.Common.{◌≡◌, ℕ, true, false, List, [], ◌∷◌, drop, length, Option, Some, None, Ok, Err, ◌≢◌, ◌==◌, ◌≤◌, sym, ap, ap₂, subst, ◌∙◌, arith}
 use Rattle.std.proofs.lemmas.Bool.{false≢true, eqb-true, eqb-false}
 use Rattle.std.specs.Char.{is_ascii_digit}
 use Rattle.vk_types.specs.declared.types.Ty.{Ty}
 use Rattle.vk_tokens.specs.declared.rules.UnitRule.{UnitRule}
-use Rattle.vk_tokens.specs.declared.rules.UnitRule.TheVariants.{C1, C2, C3, C4}
+use Rattle.vk_tokens.specs.declared.rules.UnitRule.TheVariants.{C1, C2, C4}
 use Rattle.vk_lex.specs.Characters.{is_word_start, is_word_byte, run, after}
 use Rattle.vk_lex.specs.Literals.{begins_floating, begins_fraction, literal}
 use Rattle.vk_tokens.specs.declared.tokens.Mark.{Mark}
 use Rattle.vk_lex.specs.Signs.{mark_text, sign_at}
 use Rattle.vk_lex.specs.Tokens.{Kind, word, integer, sign}
-use Rattle.vk_lex.specs.Lexing.{begins_by, is_floating_word, is_number_byte, IsToken, a_name, a_number, a_sign, IsNoToken, floating_word, floating_number, no_literal, floating_fraction, stray_byte, BeginsOther, IsPlain, BeginsToken, ended, going, IsPiece, a_blank, a_newline, a_comment, a_heading, a_token, an_idle_byte, IsFault, open_comment, late_hash, no_heading, no_token}
-use Rattle.vk_lex.specs.Comments.{begins_with, begins_blank, after_comment, is_open_comment}
+use Rattle.vk_lex.specs.Lexing.{begins_by, is_floating_word, is_number_byte, IsToken, a_name, a_number, a_sign, IsNoToken, floating_word, floating_number, no_literal, floating_fraction, stray_byte, BeginsOther, IsPlain, BeginsToken, ended, going, IsPiece, a_blank, a_newline, a_heading, a_token, an_idle_byte, IsFault, late_hash, no_heading, no_token}
+use Rattle.vk_lex.specs.Comments.{begins_with, begins_blank}
 use Rattle.vk_lex.specs.Headings.{Heading}
 use Rattle.vk_lex.specs.declared.pieces.Mode.{Mode}
-use Rattle.vk_lex.specs.declared.pieces.Mode.TheVariants.{Start, Inside, Directive, Idle}
+use Rattle.vk_lex.specs.declared.pieces.Mode.TheVariants.{Start, Idle}
 
 pub name_token : (text w rest : List ℕ) → begins_by is_word_start text ≡ true → w ≡ run is_word_byte text → rest ≡ after is_word_byte text → is_floating_word w ≡ false
     → IsToken text (word w) rest

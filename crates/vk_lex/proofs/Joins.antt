@@ -1,8 +1,8 @@
 -- Joining lines, character by character.
-use Rattle.std.proofs.Common.{◌≡◌, ℕ, zero, suc, ◌+◌, ◌<◌, ◌≤◌, ◌==◌, Bool, true, false, ◌&&◌, List, [], ◌∷◌, ◌++◌, drop, length, refl, sym, ap, subst, ◌∙◌, append_assoc, arith, if◌then◌else◌}
+use Rattle.std.proofs.Common.{◌≡◌, ℕ, suc, ◌+◌, ◌<◌, ◌≤◌, ◌==◌, Bool, true, false, ◌&&◌, List, [], ◌∷◌, ◌++◌, drop, length, refl, sym, ap, subst, ◌∙◌, append_assoc, arith, if◌then◌else◌}
 use Rattle.std.proofs.lemmas.List.{append-nil, length-drop}
 use Rattle.std.proofs.lemmas.Bool.{false≢true, eqb-true}
-use Rattle.vk_lex.specs.Characters.{Char, numbered, joined, begins, begins_two, join_len, characters, codes_of, lines_of, text_of, newlines, last_line}
+use Rattle.vk_lex.specs.Characters.{Char, numbered, joined, join_len, characters, codes_of, lines_of, text_of, newlines, last_line}
 
 -- the codes and lines so far, the line reached, and the bytes left
 pub record Joining (bytes codes lines : List ℕ) (last : ℕ) (rest : List ℕ) : Type 0 where

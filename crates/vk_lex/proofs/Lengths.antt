@@ -1,5 +1,5 @@
 -- How much shorter a text is behind its first piece.
-use Rattle.std.proofs.Common.{◌≡◌, ℕ, suc, ◌+◌, ◌-◌, ◌<◌, ◌≤◌, ◌==◌, Bool, true, false, not, ◌&&◌, ◌||◌, List, [], ◌∷◌, ◌++◌, codes, take, drop, length, cond, Option, Some, None, refl, sym, ap, subst, ◌∙◌, arith, lit<, if◌then◌else◌}
+use Rattle.std.proofs.Common.{◌≡◌, ℕ, suc, ◌+◌, ◌<◌, ◌≤◌, ◌==◌, Bool, true, false, not, ◌&&◌, ◌||◌, List, [], ◌∷◌, codes, drop, length, cond, Option, Some, None, refl, sym, ap, ◌∙◌, arith, lit<, if◌then◌else◌}
 use Rattle.std.proofs.lemmas.Bool.{false≢true}
 use Rattle.std.proofs.lemmas.Option.{none-some}
 use Rattle.std.proofs.lemmas.List.{length-drop, length-append, take-append-drop}
@@ -9,7 +9,7 @@ use Rattle.std.specs.Int.{is_in_range}
 use Rattle.std.specs.Option.{unwrap_or}
 use Rattle.vk_tokens.specs.declared.tokens.Mark.{Mark}
 use Rattle.vk_tokens.specs.declared.tokens.Mark.TheVariants.{OpenParen, CloseParen, OpenBracket, CloseBracket, OpenBrace, CloseBrace, Semicolon, Comma, Question, Colon, Assign, AddAssign, SubAssign, MulAssign, DivAssign, RemAssign, AndAssign, OrAssign, XorAssign, ShlAssign, ShrAssign, Increment, Decrement, Plus, Minus, Star, Slash, Percent, Ampersand, Bar, Caret, Tilde, Bang, ShiftLeft, ShiftRight, EqualEqual, NotEqual, Less, Greater, LessEqual, GreaterEqual, AndAnd, OrOr}
-use Rattle.vk_lex.specs.Characters.{is_word_byte, is_word_start, is_not_newline, run, after}
+use Rattle.vk_lex.specs.Characters.{is_word_byte, is_not_newline, run, after}
 use Rattle.vk_lex.specs.Comments.{Gap, a_blank as a_gap_blank, a_comment as a_gap_comment, no_gap, after_comment, after_close, begins_with}
 use Rattle.vk_lex.specs.Headings.{Words, no_words, a_word, IsFile, IsDirective, a_simd, a_simdfn, Heading, an_include, a_pragma, a_directive}
 use Rattle.vk_lex.specs.Signs.{mark_text}

@@ -1,5 +1,5 @@
 -- Lines of places.
-use Rattle.std.proofs.Common.{◌≡◌, ℕ, zero, suc, ◌-◌, ◌<◌, ◌≤◌, get_or, arith, List, [], ◌∷◌, drop, length, map, slice_get, Some, refl, sym, ap, subst, ◌∙◌}
+use Rattle.std.proofs.Common.{◌≡◌, ℕ, zero, suc, ◌-◌, ◌<◌, ◌≤◌, get_or, arith, List, [], ◌∷◌, drop, length, slice_get, Some, refl, sym, ap, ◌∙◌}
 use Rattle.std.proofs.lemmas.Option.{none-some, slice_get_read}
 use Rattle.std.proofs.Math.Seq.{drop-length}
 use Rattle.std.proofs.lemmas.List.{length-map}
@@ -18,7 +18,7 @@ pub line_is : (bytes lines : List ℕ) (left line : ℕ) → lines ≡ lines_of 
 line_is bytes lines left line e within some is =
     let here : slice_get lines (length lines - left) ≡ Some line = slice_get_read lines (length lines) (length lines - left) line refl (omega (arith, within, some)) is in
     sym (line_found (characters bytes) (last_line bytes) (length (characters bytes) - left) line
-        (sym (ap (λ (l : List ℕ). slice_get l (length lines - left)) e ∙ ap (λ n. slice_get (lines_of (characters bytes)) (n - left)) (count bytes lines e)) ∙ here))
+    (sym (ap (λ (l : List ℕ). slice_get l (length lines - left)) e ∙ ap (λ n. slice_get (lines_of (characters bytes)) (n - left)) (count bytes lines e)) ∙ here))
 
 pub last_is : (bytes : List ℕ) → last_line bytes ≡ line_of bytes 0
 last_is bytes =

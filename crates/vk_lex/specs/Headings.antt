@@ -1,7 +1,7 @@
 -- Lines that begin with `#`. What may stand between their words are blanks and comments.
-use Rattle.std.specs.Prelude.{◌≡◌, ℕ, ◌==◌, Bool, ◌||◌, true, false, List, [], ◌∷◌, ◌++◌, ◌⊎◌, codes, Option, Some, None}
+use Rattle.std.specs.Prelude.{◌≡◌, ℕ, ◌==◌, Bool, ◌||◌, true, List, [], ◌∷◌, ◌++◌, codes, Option, Some, None}
 use Rattle.vk_lex.specs.Characters.{is_word_byte, run, after}
-use Rattle.vk_lex.specs.Comments.{Gap, begins_with, is_open_comment}
+use Rattle.vk_lex.specs.Comments.{Gap, is_open_comment}
 use Rattle.vk_lex.specs.Tokens.{Kind, simd, simdfn}
 use Rattle.vk_lex.specs.declared.pieces.Mode.{Mode}
 use Rattle.vk_lex.specs.declared.pieces.Mode.TheVariants.{Inside, Directive, Idle}

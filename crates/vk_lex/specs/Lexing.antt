@@ -1,12 +1,12 @@
 -- The tokens of a text (C17 6.4), piece by piece, and its first fault.
-use Rattle.std.specs.Prelude.{◌≡◌, ◌≢◌, ℕ, ◌+◌, ◌==◌, Bool, true, false, ◌||◌, List, [], ◌∷◌, length, drop, codes, nat_eq, Option, Some, None, Ok, Err, ◌⊎◌}
+use Rattle.std.specs.Prelude.{◌≡◌, ◌≢◌, ℕ, ◌==◌, Bool, true, false, ◌||◌, List, [], ◌∷◌, length, drop, codes, nat_eq, Option, Some, None, Ok, Err}
 use Rattle.std.specs.Char.{is_ascii_digit}
 use Rattle.std.specs.List.{list_any}
 use Rattle.std.specs.Cmp.Lexicographic.{pointwise}
 use Rattle.vk_types.specs.declared.types.Ty.{Ty}
 use Rattle.vk_tokens.specs.declared.tokens.Mark.{Mark}
 use Rattle.vk_tokens.specs.declared.rules.UnitRule.{UnitRule}
-use Rattle.vk_tokens.specs.declared.rules.UnitRule.TheVariants.{C1, C2, C3, C4}
+use Rattle.vk_tokens.specs.declared.rules.UnitRule.TheVariants.{C1, C2, C4}
 use Rattle.vk_lex.specs.Characters.{is_blank, is_word_byte, is_word_start, run, after, text_of, line_of}
 use Rattle.vk_lex.specs.Comments.{after_comment, is_open_comment}
 use Rattle.vk_lex.specs.Headings.{Heading}

@@ -1,5 +1,5 @@
 -- Numbers: integer literals with their types (C17 6.4.4.1), and where a floating literal begins (C17 6.4.4.2).
-use Rattle.std.specs.Prelude.{ℕ, ◌+◌, ◌-◌, ◌*◌, ◌^◌, ◌==◌, nat_lt, Bool, true, false, ◌&&◌, ◌||◌, not, List, [], ◌∷◌, drop, codes, Option, Some, None, Result, Ok, Err, if◌then◌else◌}
+use Rattle.std.specs.Prelude.{ℕ, ◌+◌, ◌-◌, ◌*◌, ◌^◌, ◌==◌, nat_lt, Bool, true, false, ◌&&◌, ◌||◌, List, [], ◌∷◌, drop, Option, Some, None, Result, Ok, Err, if◌then◌else◌}
 use Rattle.std.specs.Char.{is_ascii_digit, is_ascii_hexdigit}
 use Rattle.std.specs.Int.{is_in_range}
 use Rattle.vk_types.specs.declared.types.Ty.{Ty}
@@ -9,7 +9,7 @@ use Rattle.vk_tokens.specs.declared.rules.UnitRule.TheVariants.{C1, C3}
 use Rattle.vk_lex.specs.declared.literals.Base.{Base}
 use Rattle.vk_lex.specs.declared.literals.Base.TheVariants.{Decimal, Octal, Hexadecimal}
 use Rattle.vk_lex.specs.declared.literals.Suffix.{Suffix}
-use Rattle.vk_lex.specs.Characters.{is_word_byte, run, after}
+use Rattle.vk_lex.specs.Characters.{run, after}
 use Rattle.vk_lex.specs.Comments.{begins_with}
 
 -- ---- floating literals

@@ -1,12 +1,11 @@
 -- Tokens by their texts, and the state between two of them.
-use Rattle.std.specs.Prelude.{◌≡◌, ℕ, ◌+◌, ◌<◌, ◌≤◌, true, List, [], ◌∷◌, ◌++◌, ◌⊎◌, map, length, slice_get, slice_index, Option, Some, None}
+use Rattle.std.specs.Prelude.{◌≡◌, ℕ, ◌+◌, ◌<◌, ◌≤◌, true, List, [], ◌∷◌, ◌++◌, ◌⊎◌, length, slice_get, slice_index, Option, Some, None}
 use Rattle.std.specs.List.{list_all}
 use Rattle.vk_lex.specs.Characters.{is_word_byte, is_word_start}
 use Rattle.std.specs.Option.{unwrap_or}
 use Rattle.vk_types.specs.declared.types.Ty.{Ty}
 use Rattle.vk_lex.specs.declared.pieces.Found.{Found}
 use Rattle.vk_lex.specs.declared.pieces.Found.TheVariants.{Word, Int as FoundInt, Sign as FoundSign, Simdfn as FoundSimdfn, Simd as FoundSimd, LineEnd as FoundLineEnd}
-use Rattle.vk_ast.specs.declared.names.NameId.{NameId}
 use Rattle.vk_tokens.specs.declared.tokens.Mark.{Mark}
 use Rattle.vk_tokens.specs.declared.tokens.Token.{Token}
 use Rattle.vk_tokens.specs.declared.tokens.TokenKind.{TokenKind}

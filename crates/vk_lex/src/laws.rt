@@ -1,10 +1,15 @@
 //! What holds of the tokens and the first fault of a unit.
-ghost use Rattle.std.specs.Prelude.{◌≡◌, ℕ, List, Option};
-ghost use Rattle.vk_lex.specs.Tokens.{Kind};
-ghost use Rattle.vk_lex.specs.declared.pieces.Mode.{Mode};
-ghost use Rattle.vk_lex.specs.Lexing.{IsPiece};
 
-/// A text has one first piece.
-fn one_piece()
-    ensures { (m n o : Mode) (text r s : List ℕ) (j k : Option Kind) → IsPiece m text j n r → IsPiece m text k o s → j ≡ k }
+ghost use Rattle.std.specs.Prelude.{◌≡◌, ℕ, List};
+ghost use Rattle.vk_tokens.specs.declared.rules.UnitRule.{UnitRule};
+ghost use Rattle.vk_lex.specs.Tokens.{Tok};
+ghost use Rattle.vk_lex.specs.Lexing.{Lexes, Refuses};
+
+/// The bytes of a unit have one list of tokens at most, or one first fault at most, and not both. (That they have one of
+/// these is what `lex` answers, where there is memory.)
+pub fn one_answer()
+    ensures one_list { (bytes : List ℕ) (a b : List Tok) → Lexes bytes a → Lexes bytes b → a ≡ b }
+    ensures not_both { (bytes : List ℕ) (a : List Tok) (line : ℕ) (rule : UnitRule) → Lexes bytes a → Refuses bytes line rule → ⊥ }
+    ensures one_fault { (bytes : List ℕ) (line other : ℕ) (rule another : UnitRule) → Refuses bytes line rule → Refuses bytes other another
+        → (line ≡ other) × (rule ≡ another) }
 {}

@@ -53,8 +53,8 @@ const MARKS: [Mark; 43] = [
     Mark::Greater,
 ];
 
-// The text of a punctuator.
-fn mark_text(mark: Mark) -> &'static [u8]
+/// The text of a punctuator.
+pub(crate) fn mark_text(mark: Mark) -> &'static [u8]
     ensures { result.now ≡ mark_text mark }
 {
     match mark {

@@ -1,4 +1,4 @@
-use Rattle.std.proofs.Common.{◌≡◌, List, ℕ, ◌++◌, take, drop, length, sym, ◌∙◌, ap, ap₂}
+use Rattle.std.proofs.Common.{List, ℕ, ◌++◌, take, length, sym, ◌∙◌, ap, ap₂}
 use Rattle.std.specs.Cmp.Lexicographic.{same_text, other_text}
 use Rattle.std.proofs.lemmas.List.{take-append-drop}
 use Rattle.std.proofs.Math.Seq.{take-append_seam}

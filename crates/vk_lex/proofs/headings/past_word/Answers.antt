@@ -1,6 +1,6 @@
-use Rattle.std.proofs.Common.{◌≡◌, List, ℕ, take, drop, sym, ◌∙◌, ap}
+use Rattle.std.proofs.Common.{◌≡◌, take, drop, sym, ◌∙◌, ap}
 use Rattle.std.specs.Cmp.Lexicographic.{same_text, other_text}
-use Rattle.vk_lex.specs.Characters.{run, is_word_byte, after}
+use Rattle.vk_lex.specs.Characters.{run, is_word_byte}
 use Rattle.vk_lex.proofs.Words.{one_word, other_word}
 use Rattle.vk_lex.proofs.headings.past_word.Goals as goal
 

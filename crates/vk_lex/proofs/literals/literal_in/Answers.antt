@@ -1,6 +1,4 @@
-use Rattle.std.proofs.Common.{◌≡◌, ◌^◌, ◌∙◌, ap, sym, min, rules}
-use Rattle.vk_lex.specs.Characters.{after}
-use Rattle.vk_lex.specs.Literals.{value_in, first_type, suffix_of, types_for, is_digit_of}
+use Rattle.std.proofs.Common.{rules}
 use Rattle.vk_lex.proofs.Values.{some_type, no_type}
 use Rattle.vk_lex.proofs.literals.literal_in.Goals as goal
 

@@ -1,4 +1,4 @@
-use Rattle.std.proofs.Common.{◌≡◌, ◌+◌, ◌*◌, ◌^◌, ◌≤◌, ◌∙◌, ap, ap₂, min, arith}
+use Rattle.std.proofs.Common.{◌+◌, ◌*◌, ◌^◌, ◌≤◌, ◌∙◌, ap₂, min, arith}
 use Rattle.vk_lex.proofs.Values.{next_digit}
 use Rattle.vk_lex.proofs.literals.value_of.Goals as goal
 

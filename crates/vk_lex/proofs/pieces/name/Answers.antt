@@ -1,5 +1,4 @@
-use Rattle.std.proofs.Common.{◌≡◌, ℕ, List, take, drop, sym, ◌∙◌, ap}
-use Rattle.vk_lex.specs.Characters.{run, after, is_word_byte}
+use Rattle.std.proofs.Common.{take, drop, sym, ◌∙◌, ap}
 use Rattle.vk_lex.proofs.Fronts.{name_token, name_fault}
 use Rattle.vk_lex.proofs.pieces.name.Goals as goal
 

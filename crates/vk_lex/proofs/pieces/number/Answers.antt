@@ -1,4 +1,4 @@
-use Rattle.std.proofs.Common.{◌≡◌, ℕ, List, take, drop, sym, ◌∙◌, ap}
+use Rattle.std.proofs.Common.{take, drop, sym, ◌∙◌, ap}
 use Rattle.vk_lex.proofs.Fronts.{number_token, number_fault, floating_fault}
 use Rattle.vk_lex.proofs.pieces.number.Goals as goal
 

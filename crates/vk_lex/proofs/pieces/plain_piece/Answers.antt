@@ -1,7 +1,7 @@
-use Rattle.std.proofs.Common.{refl, ◌≡◌, List, ℕ}
+use Rattle.std.proofs.Common.{refl}
 use Rattle.std.specs.Option.{option_map}
 use Rattle.vk_lex.specs.Tokens.{found_kind}
-use Rattle.vk_lex.proofs.Fronts.{newline_piece, blank_piece, idle_piece, hash_text, begins_token}
+use Rattle.vk_lex.proofs.Fronts.{newline_piece, blank_piece, idle_piece}
 use Rattle.vk_lex.proofs.pieces.plain_piece.Goals as goal
 
 pub returns-then-begins_with-clause-piece : goal.returns-then-begins_with-clause-piece

@@ -1,6 +1,6 @@
-use Rattle.std.proofs.Common.{◌≡◌, ◌<◌, ◌-◌, get_or, length, ap, sym, ◌∙◌, arith, rules}
+use Rattle.std.proofs.Common.{◌≡◌, ◌<◌, ◌-◌, get_or, length, ap, ◌∙◌, arith, rules}
 use Rattle.vk_lex.proofs.Places.{line_is}
-use Rattle.vk_lex.proofs.lex.line_at.Goals as goal
+use Rattle.vk_lex.proofs.reader.line_at.Goals as goal
 
 pub returns-else-left-eq0 : goal.returns-else-left-eq0
 returns-else-left-eq0 c = λ bytes lines last.

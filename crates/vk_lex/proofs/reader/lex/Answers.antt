@@ -1,13 +1,13 @@
-use Rattle.std.proofs.Common.{◌≡◌, ℕ, ◌<◌, ◌≤◌, length, List, [], subst, sym, ap, ◌∙◌, arith, rules}
+use Rattle.std.proofs.Common.{◌≡◌, ℕ, ◌<◌, length, List, [], subst, sym, ◌∙◌, arith}
 use Rattle.std.specs.Option.{option_map}
-use Rattle.vk_lex.specs.Characters.{line_of, text_of}
+use Rattle.vk_lex.specs.Characters.{line_of}
 use Rattle.vk_lex.specs.Tokens.{found_kind, Tells}
 use Rattle.vk_lex.specs.Lexing.{Refuses}
 use Rattle.vk_lex.proofs.Lengths.{piece_length}
 use Rattle.vk_lex.proofs.Loop.{Lexing, Lexed, turn, lexed, refused, no_length, lexes_only, lexes_or_refuses, refuses_only, text_length}
 use Rattle.vk_lex.proofs.Places.{last_is}
 use Rattle.std.proofs.lemmas.Bool.Decides.{nat_tests}
-use Rattle.vk_lex.proofs.lex.lex.Goals as goal
+use Rattle.vk_lex.proofs.reader.lex.Goals as goal
 
 refusal : (c : goal.After-drop-characters-in-Err) → Refuses c.args.bytes.now c.line_at-line.result c.in-Err.rule
 refusal c =

@@ -1,6 +1,6 @@
 use Rattle.std.proofs.Common.{length}
 use Rattle.vk_lex.proofs.Loop.{Lexing}
-use Rattle.vk_lex.proofs.lex.lex.Given as goal
+use Rattle.vk_lex.proofs.reader.lex.Given as goal
 
 abbrev pub invariant-loop-rest : goal.invariant-loop-rest
 invariant-loop-rest l = Lexing l.fn.bytes l.names l.list.items l.mode l.rest
