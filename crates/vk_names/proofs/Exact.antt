@@ -83,11 +83,11 @@ by text at rule rest place h = (stop_at rule rest, h, record { place = omega (ar
 lens : (text front rest : List ℕ) (n : ℕ) → text ≡ front ++ rest → length front ≡ n → n + length rest ≡ length text
 lens text front rest n is len = omega (arith, ap (λ (t : List ℕ). length t) is, length-append front rest, len)
 
-end_strays : (b : ℕ) (rest : List ℕ) → is_kind_letter b ≡ false → b ≢ 95 → end_at (b ∷ rest) ≡ Err (stop_at N5 (b ∷ rest))
+pub end_strays : (b : ℕ) (rest : List ℕ) → is_kind_letter b ≡ false → b ≢ 95 → end_at (b ∷ rest) ≡ Err (stop_at N5 (b ∷ rest))
 unfolding end_at
 end_strays b rest letter other = rw (ne_eqb b 95 other, letter) refl
 
-end_cut : end_at [] ≡ Err (stop_at N9 [])
+pub end_cut : end_at [] ≡ Err (stop_at N9 [])
 unfolding end_at
 end_cut = refl
 

@@ -125,7 +125,7 @@ mark_refuses text at small front here =
 
 -- ---- letters
 
-isa_again : (i : Isa) (rest : List ℕ) → isa_at (isa_letter i ∷ rest) ≡ Ok (i, rest)
+pub isa_again : (i : Isa) (rest : List ℕ) → isa_at (isa_letter i ∷ rest) ≡ Ok (i, rest)
 unfolding isa_at
 isa_again B rest = refl
 isa_again C rest = refl
@@ -170,7 +170,7 @@ isa_refuses bytes none =
     left_or (cases_result (isa_at bytes)) (λ y. absurd (none y.0.0 (y.0.1, isa_takes bytes y.0 y.1)))
     (λ n. n.1 ∙ ap (λ (s : Stop). Err s) (isa_stop bytes n.0 n.1))
 
-mask_again : (m : Bool) (rest : List ℕ) → mask_at (mask_letter m ∷ rest) ≡ Ok (m, rest)
+pub mask_again : (m : Bool) (rest : List ℕ) → mask_at (mask_letter m ∷ rest) ≡ Ok (m, rest)
 unfolding mask_at
 mask_again true rest = refl
 mask_again false rest = refl
@@ -214,7 +214,7 @@ is_s_true N h = absurd cc
 is_s_true S h = refl
 
 -- at another byte than `x` a number is read
-at_number : (isa : Isa) (masked : Bool) (bytes : List ℕ) → (BeginsWith 120 bytes → ⊥) → len_at isa masked bytes ≡ fixed_at bytes
+pub at_number : (isa : Isa) (masked : Bool) (bytes : List ℕ) → (BeginsWith 120 bytes → ⊥) → len_at isa masked bytes ≡ fixed_at bytes
 unfolding len_at
 at_number isa masked [] h = refl
 at_number isa masked (b ∷ bs) h = rw (ne_eqb b 120 (λ e. h (bs, ap (λ (c : ℕ). c ∷ bs) e))) refl

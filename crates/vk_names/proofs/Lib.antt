@@ -7,3 +7,13 @@ pub mod Placement
 pub mod Whole
 pub mod Exact
 pub mod Staying
+pub mod Standing
+pub mod Runs
+pub mod Items
+pub mod Heads
+pub mod Due
+pub mod AtNext
+pub mod AtFront
+pub mod Feeding
+pub mod Answered
+pub mod StateAnswers

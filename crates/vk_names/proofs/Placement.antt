@@ -94,7 +94,7 @@ pub record FirstFalse (p : Param → Bool) (ws : List Written) : Type 0 where
   pub passed : list_all p (all_params before) ≡ true
   pub wrong : p here.param ≡ false
 
-first_false : (p : Param → Bool) (ws : List Written) → list_all p (all_params ws) ≡ false → FirstFalse p ws
+pub first_false : (p : Param → Bool) (ws : List Written) → list_all p (all_params ws) ≡ false → FirstFalse p ws
 first_false p [] h = absurd (false≢true (sym h))
 first_false p (w ∷ ws) h =
     left_or (cases_Bool (p w.param))

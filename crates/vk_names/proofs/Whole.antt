@@ -78,7 +78,7 @@ pub record AllInDecimal (ws : List Written) : Type 0 where
   pub text : params_text (map in_decimal (all_params ws)) ≡ params_text ws
   pub fit : AllByRecursion IsWritten (map in_decimal (all_params ws))
 
-all_in_decimal : (all ws : List Written) → length all ≤ 64 → AllByRecursion IsWritten ws → list_all (is_placed (all_params all)) (all_params ws) ≡ true → AllInDecimal ws
+pub all_in_decimal : (all ws : List Written) → length all ≤ 64 → AllByRecursion IsWritten ws → list_all (is_placed (all_params all)) (all_params ws) ≡ true → AllInDecimal ws
 all_in_decimal all [] few fit placed = record { kept_are = refl; text = refl; fit = tt }
 all_in_decimal all (w ∷ ws) few fit placed =
     let p = and_parts (is_placed (all_params all) w.param) (list_all (is_placed (all_params all)) (all_params ws)) placed in
@@ -112,7 +112,7 @@ reads_to text front ws rest e b h =
     let all : params_at 64 [] (params_text ws ++ rest) ≡ Err e = begins_params text front ws rest (64 - length ws) b (omega (arith, few)) ∙ h in
     rw (begins_front text front ws rest b, all) refl
 
-at_underscore : (room : ℕ) (before : List Param) (scalar : List ℕ) → params_at room before (95 ∷ scalar) ≡ Ok (before, scalar)
+pub at_underscore : (room : ℕ) (before : List Param) (scalar : List ℕ) → params_at room before (95 ∷ scalar) ≡ Ok (before, scalar)
 unfolding params_at end_at
 at_underscore zero before scalar = refl
 at_underscore (suc room) before scalar = refl

@@ -1,5 +1,5 @@
 -- Bytes that come in pieces: when it is due to answer, though more bytes may come.
-use Rattle.std.specs.Prelude.{ℕ, nat_lt, Bool, true, false, not, ◌&&◌, ◌||◌, List, length, drop}
+use Rattle.std.specs.Prelude.{◌≡◌, ℕ, nat_lt, min, Bool, true, false, not, ◌&&◌, ◌||◌, List, length, drop}
 use Rattle.vk_names.specs.declared.names.ReadName.{ReadName}
 use Rattle.vk_names.specs.declared.rules.NameFault.{NameFault}
 use Rattle.vk_names.specs.declared.rules.NameRule.{NameRule}
@@ -7,7 +7,7 @@ use Rattle.vk_names.specs.declared.rules.NameRule.TheVariants.{N1, N2, N3, N4, N
 use Rattle.vk_names.specs.declared.feed.Progress.{Progress}
 use Rattle.vk_names.specs.declared.feed.Progress.TheVariants.{More, Done, Fault}
 use Rattle.vk_names.specs.Spelling.{text_of}
-use Rattle.vk_names.specs.Refusal.{digit_run}
+use Rattle.vk_names.specs.Refusal.{digit_run, NameRefused}
 
 -- a byte that ends the text, no letter, digit or underscore, is among the bytes
 abbrev pub is_ended : List ℕ → Bool
@@ -41,6 +41,14 @@ is_told bytes at rule = nat_lt at (length bytes) && (not (judges_run rule) || ru
 -- the refusal is due: the text has ended, or the refusal is told before that
 abbrev pub is_due : List ℕ → ℕ → NameRule → Bool
 is_due bytes at rule = is_ended bytes || is_told bytes at rule
+
+-- a place as it is told: one past 4294967295 as that
+abbrev pub told_at : ℕ → ℕ
+told_at at = min at 4294967295
+
+-- the fault says that the bytes are refused, with the place as it is told
+abbrev pub SaysRefused : List ℕ → NameFault → Type 0
+SaysRefused bytes fault = (at : ℕ) × (fault.at ≡ told_at at) × NameRefused bytes at fault.rule
 
 -- ---- answers
 

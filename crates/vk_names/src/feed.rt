@@ -1,17 +1,16 @@
 // Reading a name that comes in pieces.
-ghost use Rattle.std.specs.Prelude.{◌≡◌, ℕ, ◌+◌, ◌<◌, ◌≤◌, ◌^◌, List, [], ◌++◌, length, IfOk, IfErr, IsOkAnd, IsErrAnd, IsTrue, IsFalse};
-ghost use Rattle.std.specs.Char.{is_ascii_digit};
-ghost use Rattle.std.specs.List.{prefix_len};
+ghost use Rattle.std.specs.Prelude.{◌≡◌, ℕ, ◌<◌, List, [], ◌++◌, length, IfOk, IfErr, IsOkAnd, IsErrAnd, IsTrue, IsFalse};
 ghost use Rattle.vk_names.specs.Spelling.{Name, text_of, name_in, Spells};
 ghost use Rattle.vk_names.specs.declared.rules.NameRule.{NameRule};
 ghost use Rattle.vk_names.specs.Refusal.{NameRefused};
-ghost use Rattle.vk_names.specs.Pieces.{is_ended, judges_run, run_ends, is_told, is_due, IfMore, IfDone, IfFault, IsDoneAnd, IsFaultAnd};
+ghost use Rattle.vk_names.specs.Pieces.{told_at, is_ended, is_due, SaysRefused, IfMore, IfDone, IfFault, IsDoneAnd, IsFaultAnd};
+ghost use Rattle.vk_names.specs.Steps.{end_on, state_on};
+ghost use Rattle.vk_names.specs.Feeds.{Stands, IsRead, IsProgress, IsEnd};
 
-use crate::names::ReadName;
-use crate::read::{read_name, text_len};
+use crate::names::{NameHead, ReadName};
 use crate::rules::{NameFault, NameRule};
-use arrayvec::ArrayVec;
-use std::marker::Model;
+use crate::states::{Found, State, end_on, state_on};
+use vk_kinds::Params;
 
 /// What a feed answers.
 #[derive(Drop)]
@@ -24,132 +23,128 @@ pub enum Progress {
     Fault(NameFault),
 }
 
-/// A name that comes in pieces. It stands for all bytes that were fed to it, and keeps them, at most 1048576.
+/// A name that comes in pieces. It stands for all bytes that were fed to it, and keeps none of them: only what was read
+/// of them so far.
 #[derive(Drop)]
 pub struct NameFeed {
-    bytes: ArrayVec<u8, 1048576>,
-}
-
-impl Model for NameFeed {
-    ghost Value = { List ℕ };
-
-    ghost view = { λ f. f.bytes.items };
-}
-
-/// Whether a byte that ends the text is there.
-fn is_ended(bytes: &[u8]) -> bool
-    ensures { result ≡ is_ended bytes.now }
-{
-    text_len(bytes) < bytes.len()
-}
-
-/// Whether the rule judges a run of digits, where it ends.
-fn judges_run(rule: NameRule) -> bool
-    ensures { result ≡ judges_run rule }
-{
-    matches!(rule, NameRule::N4 | NameRule::N6 | NameRule::N8)
-}
-
-/// How many digits stand in front.
-fn run_len(bytes: &[u8]) -> usize
-    ensures { result ≡ prefix_len is_ascii_digit bytes.now }
-{
-    bytes.iter().take_while(|b| b.is_ascii_digit()).count()
-}
-
-/// Whether the run of digits in front ends before the bytes do.
-fn run_ends(bytes: &[u8]) -> bool
-    ensures { result ≡ run_ends bytes.now }
-{
-    run_len(bytes) < bytes.len()
-}
-
-/// Whether the refusal is told of bytes that may go on.
-fn is_told(bytes: &[u8], fault: NameFault) -> bool
-    ensures { result ≡ is_told bytes.now fault.at fault.rule }
-{
-    let at = fault.at as usize;
-    at < bytes.len() && (!judges_run(fault.rule) || run_ends(&bytes[at..]))
-}
-
-/// What is answered once these bytes were fed.
-fn answer(bytes: &[u8]) -> Progress
-    requires { length bytes.now < 2 ^ 32 }
-    ensures more { IfMore result (IsFalse (is_ended bytes.now)) }
-    ensures ended { IfDone result (λ r. IsTrue (is_ended bytes.now)) }
-    ensures spelled { IfDone result (λ r. Spells (name_in r.head r.scalar_at r.used bytes.now) bytes.now) }
-    ensures scalar { IfDone result (λ r. r.scalar_at < r.used) }
-    ensures used { IfDone result (λ r. r.used ≡ length (text_of bytes.now)) }
-    ensures refused { IfFault result (λ fault. NameRefused bytes.now fault.at fault.rule) }
-    ensures due { IfFault result (λ fault. IsTrue (is_due bytes.now fault.at fault.rule)) }
-    ensures every_name { (name : Name) → IsTrue (is_ended bytes.now) → Spells name bytes.now
-        → IsDoneAnd result (λ r. name_in r.head r.scalar_at r.used bytes.now ≡ name) }
-    ensures every_fault { (at : ℕ) (rule : NameRule) → IsTrue (is_due bytes.now at rule) → NameRefused bytes.now at rule
-        → IsFaultAnd result (λ fault. (fault.at ≡ at) × (fault.rule ≡ rule)) }
-{
-    let ended = is_ended(bytes);
-    match read_name(bytes) {
-        Ok(name) if ended => Progress::Done(name),
-        Err(fault) if ended || is_told(bytes, fault) => Progress::Fault(fault),
-        _ => Progress::More,
-    }
+    state: State,
+    /// The whole parameters so far.
+    params: Params,
 }
 
 impl NameFeed {
     /// A feed of no byte yet.
     pub fn new() -> NameFeed
-        ensures { result ≡ [] }
+        ensures { Stands result [] }
     {
         NameFeed {
-            bytes: ArrayVec::new(),
+            state: State::Mark(0),
+            params: Params::new(),
         }
     }
 
-    /// Takes the next piece, and answers by all bytes that were fed, in whatever pieces.
+    /// Takes the next piece, and answers by all bytes that were fed, in whatever pieces and however many.
     ///
     /// `Done` comes once a byte that ends the text was fed and the text is a name. A fault comes once that byte was
-    /// fed, or before it where the refusal is told. Either stays the answer, whatever is fed after it.
+    /// fed, or before it where the refusal is told. Either stays the answer, whatever is fed after it. A place past
+    /// `u32::MAX` is told as `u32::MAX`.
     pub fn feed(&mut self, piece: &[u8]) -> Progress
-        requires { length self.old + length piece.now ≤ 1048576 }
-        ensures fed { self.new ≡ self.old ++ piece.now }
+        ensures fed { (bytes : List ℕ) → Stands self.old bytes → Stands self.new (bytes ++ piece.now) }
         // More comes only before the text has ended: in every case but those of the two answers below.
-        ensures more { IfMore result (IsFalse (is_ended self.new)) }
+        ensures more { (bytes : List ℕ) → Stands self.new bytes → IfMore result (IsFalse (is_ended bytes)) }
         // Done comes only where the text has ended, with the name that the bytes spell.
-        ensures ended { IfDone result (λ r. IsTrue (is_ended self.new)) }
-        ensures spelled { IfDone result (λ r. Spells (name_in r.head r.scalar_at r.used self.new) self.new) }
-        ensures scalar { IfDone result (λ r. r.scalar_at < r.used) }
-        ensures used { IfDone result (λ r. r.used ≡ length (text_of self.new)) }
+        ensures ended { (bytes : List ℕ) → Stands self.new bytes → IfDone result (λ r. IsTrue (is_ended bytes)) }
+        ensures spelled { (bytes : List ℕ) → Stands self.new bytes
+            → IfDone result (λ r. Spells (name_in r.head r.scalar_at r.used bytes) bytes) }
+        ensures scalar { (bytes : List ℕ) → Stands self.new bytes → IfDone result (λ r. r.scalar_at < r.used) }
+        ensures used { (bytes : List ℕ) → Stands self.new bytes
+            → IfDone result (λ r. r.used ≡ length (text_of bytes)) }
         // A fault comes only where it is due, and the bytes are refused so.
-        ensures refused { IfFault result (λ fault. NameRefused self.new fault.at fault.rule) }
-        ensures due { IfFault result (λ fault. IsTrue (is_due self.new fault.at fault.rule)) }
+        ensures refused { (bytes : List ℕ) → Stands self.new bytes
+            → IfFault result (λ fault. SaysRefused bytes fault) }
+        ensures due { (bytes : List ℕ) (at : ℕ) (rule : NameRule) → Stands self.new bytes → NameRefused bytes at rule
+            → IfFault result (λ fault. IsTrue (is_due bytes at rule)) }
         // Each name and each refusal that is due is answered.
-        ensures every_name { (name : Name) → IsTrue (is_ended self.new) → Spells name self.new
-            → IsDoneAnd result (λ r. name_in r.head r.scalar_at r.used self.new ≡ name) }
-        ensures every_fault { (at : ℕ) (rule : NameRule) → IsTrue (is_due self.new at rule) → NameRefused self.new at rule
-            → IsFaultAnd result (λ fault. (fault.at ≡ at) × (fault.rule ≡ rule)) }
+        ensures every_name { (bytes : List ℕ) (name : Name) → Stands self.new bytes → IsTrue (is_ended bytes)
+            → Spells name bytes → IsDoneAnd result (λ r. name_in r.head r.scalar_at r.used bytes ≡ name) }
+        ensures every_fault { (bytes : List ℕ) (at : ℕ) (rule : NameRule) → Stands self.new bytes
+            → IsTrue (is_due bytes at rule) → NameRefused bytes at rule
+            → IsFaultAnd result (λ fault. (fault.at ≡ told_at at) × (fault.rule ≡ rule)) }
         // What was due before this piece is answered again.
-        ensures again_name { (name : Name) → IsTrue (is_ended self.old) → Spells name self.old
-            → IsDoneAnd result (λ r. name_in r.head r.scalar_at r.used self.new ≡ name) }
-        ensures again_used { IsTrue (is_ended self.old) → IfDone result (λ r. r.used ≡ length (text_of self.old)) }
-        ensures again_fault { (at : ℕ) (rule : NameRule) → IsTrue (is_due self.old at rule) → NameRefused self.old at rule
-            → IsFaultAnd result (λ fault. (fault.at ≡ at) × (fault.rule ≡ rule)) }
+        ensures again_name { (bytes : List ℕ) (name : Name) → Stands self.old bytes → IsTrue (is_ended bytes)
+            → Spells name bytes
+            → IsDoneAnd result (λ r. name_in r.head r.scalar_at r.used (bytes ++ piece.now) ≡ name) }
+        ensures again_used { (bytes : List ℕ) → Stands self.old bytes → IsTrue (is_ended bytes)
+            → IfDone result (λ r. r.used ≡ length (text_of bytes)) }
+        ensures again_fault { (bytes : List ℕ) (at : ℕ) (rule : NameRule) → Stands self.old bytes
+            → IsTrue (is_due bytes at rule) → NameRefused bytes at rule
+            → IsFaultAnd result (λ fault. (fault.at ≡ told_at at) × (fault.rule ≡ rule)) }
     {
-        let _fits = self.bytes.try_extend_from_slice(piece);
-        answer(self.bytes.as_slice())
+        for byte in piece {
+            self.take(*byte);
+        }
+        self.progress()
     }
 
-    /// What `read_name` answers of all bytes that were fed.
+    /// What `read_name` answers of all bytes that were fed. A place past `u32::MAX` is told as `u32::MAX`.
     pub fn end(&mut self) -> Result<ReadName, NameFault>
         ensures same { self.new ≡ self.old }
-        ensures spelled { IfOk result (λ r. Spells (name_in r.head r.scalar_at r.used self.old) self.old) }
-        ensures scalar { IfOk result (λ r. r.scalar_at < r.used) }
-        ensures used { IfOk result (λ r. r.used ≡ length (text_of self.old)) }
-        ensures refused { IfErr result (λ fault. NameRefused self.old fault.at fault.rule) }
-        ensures every_name { (name : Name) → Spells name self.old
-            → IsOkAnd result (λ r. name_in r.head r.scalar_at r.used self.old ≡ name) }
-        ensures every_fault { (at : ℕ) (rule : NameRule) → NameRefused self.old at rule
-            → IsErrAnd result (λ fault. (fault.at ≡ at) × (fault.rule ≡ rule)) }
+        ensures spelled { (bytes : List ℕ) → Stands self.old bytes
+            → IfOk result (λ r. Spells (name_in r.head r.scalar_at r.used bytes) bytes) }
+        ensures scalar { (bytes : List ℕ) → Stands self.old bytes → IfOk result (λ r. r.scalar_at < r.used) }
+        ensures used { (bytes : List ℕ) → Stands self.old bytes
+            → IfOk result (λ r. r.used ≡ length (text_of bytes)) }
+        ensures refused { (bytes : List ℕ) → Stands self.old bytes → IfErr result (λ fault. SaysRefused bytes fault) }
+        ensures every_name { (bytes : List ℕ) (name : Name) → Stands self.old bytes → Spells name bytes
+            → IsOkAnd result (λ r. name_in r.head r.scalar_at r.used bytes ≡ name) }
+        ensures every_fault { (bytes : List ℕ) (at : ℕ) (rule : NameRule) → Stands self.old bytes
+            → NameRefused bytes at rule
+            → IsErrAnd result (λ fault. (fault.at ≡ told_at at) × (fault.rule ≡ rule)) }
     {
-        read_name(self.bytes.as_slice())
+        self.ended()
+    }
+
+    /// Takes a byte.
+    fn take(&mut self, byte: u8)
+        ensures { (self.new.state, self.new.params.items) ≡ state_on self.old.state self.old.params.items byte }
+    {
+        self.state = state_on(self.state, &mut self.params, byte);
+    }
+
+    /// The name that was found.
+    fn name(&self, found: Found) -> ReadName
+        ensures { IsRead found self.now.params.items result }
+    {
+        let mut params = Params::new();
+        let _fits = params.try_extend_from_slice(self.params.as_slice());
+        ReadName {
+            head: NameHead {
+                isa: found.front.isa,
+                masked: found.front.masked,
+                len: found.front.len,
+                params,
+            },
+            scalar_at: found.scalar_at,
+            used: found.used,
+        }
+    }
+
+    fn progress(&self) -> Progress
+        ensures { IsProgress self.now.params.items self.now.state result }
+    {
+        match self.state {
+            State::Done(found) => Progress::Done(self.name(found)),
+            State::Fault(fault) => Progress::Fault(fault),
+            _ => Progress::More,
+        }
+    }
+
+    fn ended(&self) -> Result<ReadName, NameFault>
+        ensures { IsEnd self.now.params.items (end_on self.now.state) result }
+    {
+        match end_on(self.state) {
+            Ok(found) => Ok(self.name(found)),
+            Err(fault) => Err(fault),
+        }
     }
 }

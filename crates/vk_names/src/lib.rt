@@ -7,6 +7,8 @@ pub mod names;
 mod params;
 mod read;
 pub mod rules;
+mod states;
+mod steps;
 mod write;
 
 pub use feed::{NameFeed, Progress};

@@ -10,7 +10,7 @@ use crate::rules::{NameRule, Stop};
 use vk_kinds::{Kind, Param, Params, Step};
 
 /// A plain step.
-fn plain_step(size: u32) -> Step
+pub(crate) fn plain_step(size: u32) -> Step
     requires { size ≤ 2147483647 }
     ensures { result ≡ Step.By (pos size) }
 {
@@ -18,7 +18,7 @@ fn plain_step(size: u32) -> Step
 }
 
 /// A negative step.
-fn negative_step(size: u32) -> Step
+pub(crate) fn negative_step(size: u32) -> Step
     requires low { 1 ≤ size }
     requires high { size ≤ 2147483647 }
     ensures { result ≡ Step.By (negsuc (size - 1)) }
@@ -159,7 +159,7 @@ fn is_uniform_at(params: &[Param], at: u8) -> bool
 }
 
 /// Whether the parameter's position, where it has one, names a uniform parameter.
-fn is_placed(params: &[Param], param: Param) -> bool
+pub(crate) fn is_placed(params: &[Param], param: Param) -> bool
     ensures { result ≡ is_placed params.now param }
 {
     match param.kind {

@@ -12,14 +12,14 @@ use crate::rules::{NameFault, NameRule, Stop};
 use vk_kinds::{Isa, Len, Length};
 
 /// Whether the byte is a letter, a digit or an underscore.
-fn is_name_byte(byte: u8) -> bool
+pub(crate) fn is_name_byte(byte: u8) -> bool
     ensures { result ≡ is_name_byte byte }
 {
     byte.is_ascii_alphanumeric() || byte == b'_'
 }
 
 /// How many letters, digits and underscores stand in front.
-pub(crate) fn text_len(bytes: &[u8]) -> usize
+fn text_len(bytes: &[u8]) -> usize
     ensures { result ≡ prefix_len is_name_byte bytes.now }
 {
     bytes.iter().take_while(|b| is_name_byte(**b)).count()

@@ -1,4 +1,6 @@
 ghost use Rattle.std.specs.Prelude.{◌+◌, ◌≤◌, length};
+ghost use Rattle.std.specs.List.{flat_map};
+ghost use Rattle.vk_names.specs.Feeds.{Stands};
 
 use crate::{NameFault, NameFeed, NameRule, Progress, read_name, write_name};
 use arrayvec::ArrayVec;
@@ -307,11 +309,7 @@ enum Wanted {
 }
 
 /// Feeds a piece, and compares the answer.
-fn feed(rt: &impl Abort, feed: &mut NameFeed, piece: &[u8], wanted: Wanted)
-    requires { length feed.old + 2000 ≤ 1048576 }
-    ensures { length feed.new ≤ length feed.old + 2000 }
-{
-    assert!(rt; piece.len() <= 2000);
+fn feed(rt: &impl Abort, feed: &mut NameFeed, piece: &[u8], wanted: Wanted) {
     let answered = match feed.feed(piece) {
         Progress::More => Wanted::More,
         Progress::Done(name) => Wanted::Done(name.used),
@@ -320,18 +318,35 @@ fn feed(rt: &impl Abort, feed: &mut NameFeed, piece: &[u8], wanted: Wanted)
     assert_eq!(rt; answered, wanted);
 }
 
-/// Feeds three pieces, and compares each answer and that at the end.
-fn feed_all(rt: &impl Abort, pieces: &[(&[u8], Wanted); 3], at_end: Wanted) {
+/// What a feed answers at the end.
+fn at_end(feed: &mut NameFeed) -> Wanted {
+    match feed.end() {
+        Ok(name) => Wanted::Done(name.used),
+        Err(fault) => Wanted::Fault(fault.at, fault.rule),
+    }
+}
+
+/// A feed stands for any pieces that were fed to it, one after the other.
+fn after_pieces(pieces: &[&[u8]]) -> NameFeed
+    ensures { Stands result (flat_map (λ piece. piece.now) pieces.now) }
+{
+    let mut feed = NameFeed::new();
+    for piece in pieces {
+        let _answer = feed.feed(piece);
+    }
+    feed
+}
+
+/// Feeds three pieces, and compares each answer and those at the end.
+fn feed_all(rt: &impl Abort, pieces: &[(&[u8], Wanted); 3], wanted: Wanted) {
     let mut fed = NameFeed::new();
     let [first, second, third] = pieces;
     feed(rt, &mut fed, first.0, first.1);
     feed(rt, &mut fed, second.0, second.1);
     feed(rt, &mut fed, third.0, third.1);
-    let ended = match fed.end() {
-        Ok(name) => Wanted::Done(name.used),
-        Err(fault) => Wanted::Fault(fault.at, fault.rule),
-    };
-    assert_eq!(rt; ended, at_end);
+    assert_eq!(rt; at_end(&mut fed), wanted);
+    let mut again = after_pieces(&[first.0, second.0, third.0]);
+    assert_eq!(rt; at_end(&mut again), wanted);
 }
 
 #[test]
@@ -428,7 +443,66 @@ fn answers_by_all_bytes_that_were_fed(rt: HostRuntime) {
             Fault(7, NameRule::N9),
         ),
     ];
-    for (pieces, at_end) in &rows {
-        feed_all(&rt, pieces, *at_end);
+    for (pieces, wanted) in &rows {
+        feed_all(&rt, pieces, *wanted);
+    }
+}
+
+/// Feeds 300000 digits after the head, in pieces, then a byte, and compares the answers before and after it.
+fn feed_digits(rt: &impl Abort, head: &[u8], open: Wanted, next: &[u8], wanted: Wanted) {
+    let digits = [b'1'; 1000];
+    let mut fed = NameFeed::new();
+    feed(rt, &mut fed, head, Wanted::More);
+    for _ in 0..300 {
+        feed(rt, &mut fed, &digits, Wanted::More);
+    }
+    assert_eq!(rt; at_end(&mut fed), open);
+    feed(rt, &mut fed, next, wanted);
+    assert_eq!(rt; at_end(&mut fed), wanted);
+}
+
+#[test]
+fn takes_any_number_of_digits(rt: HostRuntime) {
+    use Wanted::Fault;
+    let rows: [(&[u8], Wanted, &[u8], Wanted); 6] = [
+        (
+            b"_ZGVbN",
+            Fault(6, NameRule::N4),
+            b"v",
+            Fault(6, NameRule::N4),
+        ),
+        (
+            b"_ZGVbN4l",
+            Fault(8, NameRule::N6),
+            b"v",
+            Fault(8, NameRule::N6),
+        ),
+        (
+            b"_ZGVbN4va",
+            Fault(9, NameRule::N8),
+            b"v",
+            Fault(9, NameRule::N8),
+        ),
+        (
+            b"_ZGVbN4ls",
+            Fault(300009, NameRule::N9),
+            b"_",
+            Fault(9, NameRule::N7),
+        ),
+        (
+            b"_ZGVbN4ls",
+            Fault(300009, NameRule::N9),
+            b"z",
+            Fault(300009, NameRule::N5),
+        ),
+        (
+            b"_ZGVbN4ls",
+            Fault(300009, NameRule::N9),
+            b"l01v",
+            Fault(300010, NameRule::N6),
+        ),
+    ];
+    for (head, open, next, wanted) in &rows {
+        feed_digits(&rt, head, *open, next, *wanted);
     }
 }

@@ -1,12 +1,13 @@
 // Writing a name.
 ghost use Rattle.std.specs.Prelude.{◌≡◌, ◌+◌, ◌≤◌, [], ◌∷◌, ◌++◌, length, map, decimal, Some};
 ghost use Rattle.arrayvec.specs.ArrayVec.{array_vec_len};
+ghost use Rattle.vk_names.specs.Steps.{head_len};
 ghost use Rattle.vk_names.specs.Spelling.{mark, isa_letter, mask_letter, len_text, step_text, kind_text, kind_letter, align_text, written_text, params_text, position_in, in_decimal, step_of, name_text, name_of, IsName};
 
 use crate::names::NameHead;
 use arrayvec::ArrayVec;
 use itoa::Buffer;
-use vk_kinds::{Isa, Kind, Len, Param, Step};
+use vk_kinds::{Isa, Kind, Len, Length, Param, Step};
 
 type Text = ArrayVec<u8, 4096>;
 
@@ -156,6 +157,20 @@ fn push_params(out: &mut Text, params: &[Param])
     for param in params {
         push_param(out, *param);
     }
+}
+
+/// How many bytes stand before the `_` that ends the parameters, if each number is in decimal.
+#[tactic(auto, unfolding(crate::specs::Spelling::front_text))]
+pub(crate) fn head_len(front: Length, params: &[Param]) -> u32
+    requires { length params.now ≤ 64 }
+    ensures value { result ≡ head_len front params.now }
+    ensures short { result ≤ 1488 }
+{
+    let mut out = Text::new();
+    push_letters(&mut out, front.isa, front.masked);
+    push_len(&mut out, front.len);
+    push_params(&mut out, params);
+    out.len() as u32
 }
 
 /// Writes the one text of a name.

@@ -1,26 +1,57 @@
-use Rattle.std.proofs.Common.{rules, ◌≡◌, ℕ, true, List, ◌++◌, length, ap, sym, subst, ◌∙◌}
-use Rattle.vk_names.specs.Spelling.{text_of, name_in, Spells}
-use Rattle.vk_names.specs.Refusal.{NameRefused}
-use Rattle.vk_names.specs.Pieces.{is_ended, is_due, IfDone, IsDoneAnd}
+use Rattle.std.proofs.Common.{◌≡◌, ℕ, List, ◌++◌, length, refl, subst}
+use Rattle.vk_names.specs.Pieces.{IfDone}
 use Rattle.vk_names.proofs.Staying.{text_stays, ended_stays, name_stays, due_stays, refusal_stays}
+use Rattle.vk_names.proofs.StateAnswers.{feed_answers, fed_more, fed_all}
 use Rattle.vk_names.proofs.feed.NameFeed.feed.Goals as goal
 
+pub loop-byte-init : goal.loop-byte-init
+loop-byte-init c = refl
+
+pub loop-byte-preserved : goal.loop-byte-preserved
+loop-byte-preserved c = fed_more c.args.self.now c.loop-byte.self c.take.new.self c.args.piece.now c.loop-byte.byte-index c.loop-byte-test.true c.loop-byte.invariant c.take.ensures
+
+pub returns-clause-fed : goal.returns-clause-fed
+returns-clause-fed c = fed_all c.args.self.now c.loop-byte.self c.args.piece.now c.loop-byte.byte-index c.loop-byte-test.false c.loop-byte.invariant
+
+pub returns-clause-more : goal.returns-clause-more
+returns-clause-more c bytes stands = (feed_answers c.loop-byte.self bytes c.progress.result stands c.progress.ensures).more
+
+pub returns-clause-ended : goal.returns-clause-ended
+returns-clause-ended c bytes stands = (feed_answers c.loop-byte.self bytes c.progress.result stands c.progress.ensures).ended
+
+pub returns-clause-spelled : goal.returns-clause-spelled
+returns-clause-spelled c bytes stands = (feed_answers c.loop-byte.self bytes c.progress.result stands c.progress.ensures).spelled
+
+pub returns-clause-scalar : goal.returns-clause-scalar
+returns-clause-scalar c bytes stands = (feed_answers c.loop-byte.self bytes c.progress.result stands c.progress.ensures).scalar
+
+pub returns-clause-used : goal.returns-clause-used
+returns-clause-used c bytes stands = (feed_answers c.loop-byte.self bytes c.progress.result stands c.progress.ensures).used
+
+pub returns-clause-refused : goal.returns-clause-refused
+returns-clause-refused c bytes stands = (feed_answers c.loop-byte.self bytes c.progress.result stands c.progress.ensures).refused
+
+pub returns-clause-due : goal.returns-clause-due
+returns-clause-due c bytes at rule stands = (feed_answers c.loop-byte.self bytes c.progress.result stands c.progress.ensures).due at rule
+
+pub returns-clause-every_name : goal.returns-clause-every_name
+returns-clause-every_name c bytes name stands = (feed_answers c.loop-byte.self bytes c.progress.result stands c.progress.ensures).every_name name
+
+pub returns-clause-every_fault : goal.returns-clause-every_fault
+returns-clause-every_fault c bytes at rule stands = (feed_answers c.loop-byte.self bytes c.progress.result stands c.progress.ensures).every_fault at rule
+
 pub returns-clause-again_name : goal.returns-clause-again_name
-returns-clause-again_name c name ended spelled =
-    let is : c.as_slice.result.now ≡ c.args.self.now ++ c.args.piece.now = search rules in
-    let now_ended = subst (λ (t : List ℕ). is_ended t ≡ true) (sym is) (ended_stays c.args.self.now c.args.piece.now ended) in
-    let now_spelled = subst (λ (t : List ℕ). Spells name t) (sym is) (name_stays c.args.self.now c.args.piece.now name ended spelled) in
-    subst (λ (t : List ℕ). IsDoneAnd c.answer.result (λ r. name_in r.head r.scalar_at r.used t ≡ name)) c.as_slice.ensures.value
-    (c.answer.ensures.every_name name now_ended now_spelled)
+returns-clause-again_name c bytes name stands ended spelled =
+    let all = fed_all c.args.self.now c.loop-byte.self c.args.piece.now c.loop-byte.byte-index c.loop-byte-test.false c.loop-byte.invariant bytes stands in
+    (feed_answers c.loop-byte.self (bytes ++ c.args.piece.now) c.progress.result all c.progress.ensures).every_name name (ended_stays bytes c.args.piece.now ended) (name_stays bytes c.args.piece.now name ended spelled)
 
 pub returns-clause-again_used : goal.returns-clause-again_used
-returns-clause-again_used c ended =
-    let is : c.as_slice.result.now ≡ c.args.self.now ++ c.args.piece.now = search rules in
-    subst (λ (t : List ℕ). IfDone c.answer.result (λ r. r.used ≡ length t)) (ap text_of is ∙ text_stays c.args.self.now c.args.piece.now ended) c.answer.ensures.used
+returns-clause-again_used c bytes stands ended =
+    let all = fed_all c.args.self.now c.loop-byte.self c.args.piece.now c.loop-byte.byte-index c.loop-byte-test.false c.loop-byte.invariant bytes stands in
+    subst (λ (t : List ℕ). IfDone c.progress.result (λ r. r.used ≡ length t)) (text_stays bytes c.args.piece.now ended)
+    (feed_answers c.loop-byte.self (bytes ++ c.args.piece.now) c.progress.result all c.progress.ensures).used
 
 pub returns-clause-again_fault : goal.returns-clause-again_fault
-returns-clause-again_fault c at rule due refused =
-    let is : c.as_slice.result.now ≡ c.args.self.now ++ c.args.piece.now = search rules in
-    let now_due = subst (λ (t : List ℕ). is_due t at rule ≡ true) (sym is) (due_stays c.args.self.now c.args.piece.now at rule due) in
-    let now_refused = subst (λ (t : List ℕ). NameRefused t at rule) (sym is) (refusal_stays c.args.self.now c.args.piece.now at rule due refused) in
-    c.answer.ensures.every_fault at rule now_due now_refused
+returns-clause-again_fault c bytes at rule stands due refused =
+    let all = fed_all c.args.self.now c.loop-byte.self c.args.piece.now c.loop-byte.byte-index c.loop-byte-test.false c.loop-byte.invariant bytes stands in
+    (feed_answers c.loop-byte.self (bytes ++ c.args.piece.now) c.progress.result all c.progress.ensures).every_fault at rule (due_stays bytes c.args.piece.now at rule due) (refusal_stays bytes c.args.piece.now at rule due refused)
