@@ -1,0 +1,29 @@
+-- What the code answers, against the readers on lists of tokens.
+use Rattle.std.specs.Prelude.{◌≡◌, ℕ, List, [], ◌∷◌, Result, Ok, Err}
+use Rattle.vk_ast.specs.Tree.{expr_of}
+use Rattle.vk_grammar.specs.declared.symbols.Sym.{Sym}
+use Rattle.vk_grammar.specs.Grammar.{Tall, tall}
+use Rattle.vk_grammar.specs.Parser.{Fault, Syntax, Deep}
+use Rattle.vk_expr.specs.declared.fail.ReadFail.{ReadFail}
+use Rattle.vk_expr.specs.declared.fail.ReadFail.TheVariants as fails
+use Rattle.vk_expr.specs.declared.nodes.High.{High}
+
+-- an expression as a tree with its height
+abbrev pub seen : High → Tall
+seen x = tall (expr_of x.expr) x.height
+
+-- a fault of the code is that of the reader, unless memory ran out
+abbrev pub Fails : {A : Type 0} → ReadFail → Result A Fault → Type 0
+Fails (fails.Syntax n) read = read ≡ Err (Syntax n)
+Fails (fails.Deep n) read = read ≡ Err (Deep n)
+Fails fails.Memory read = Unit {0}
+
+-- what the code answers, seen by `view`, is what the reader gives, unless memory ran out
+abbrev pub Gives : {A B : Type 0} → (A → B) → Result A ReadFail → Result B Fault → Type 0
+Gives view (Ok x) read = read ≡ Ok (view x)
+Gives view (Err fail) read = Fails fail read
+
+-- this tree, unless memory ran out
+abbrev pub Gets : Result High ReadFail → Tall → Type 0
+Gets (Ok x) t = seen x ≡ t
+Gets (Err fail) t = fail ≡ fails.Memory

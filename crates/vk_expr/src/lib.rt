@@ -1,0 +1,11 @@
+//! The reader of expressions (C17 6.5): from tokens to a tree, or to the place of the fault.
+#![tactic(auto)]
+
+pub mod fail;
+pub mod nodes;
+pub mod signs;
+pub mod steps;
+pub mod words;
+
+pub use fail::ReadFail;
+pub use nodes::High;
