@@ -3,6 +3,7 @@
 
 pub mod fail;
 pub mod nodes;
+mod reader;
 pub mod signs;
 pub mod steps;
 pub mod words;

@@ -19,17 +19,18 @@ pub struct High {
     pub height: u32,
 }
 
+/// Where an expression begins: the line and the number of its first token.
+#[derive(Clone, Copy, PartialEq, Eq, Debug)]
+pub struct Place {
+    pub line: u32,
+    pub token: u32,
+}
+
 /// Arguments, with the greatest of their heights.
 #[derive(Drop)]
 pub struct Arguments {
     pub list: Vec<Expr>,
     pub height: u32,
-}
-
-fn node(line: u32, token: u32, kind: ExprKind) -> Expr
-    ensures { result ≡ record { line = line; token = token; kind = kind } }
-{
-    Expr { line, token, kind }
 }
 
 /// A literal.
@@ -76,4 +77,53 @@ pub(crate) fn prefix_node(alloc: Global, first: Sym, prefix: Prefix, operand: Hi
         Prefix::Unary(op) => ExprKind::Unary(op, operand),
     };
     Ok(High { expr: Expr { line: first.line, token: first.at, kind }, height })
+}
+
+/// A cast.
+pub(crate) fn cast_node(alloc: Global, first: Sym, ty: Ty, operand: High) -> Result<High, ReadFail>
+    requires { operand.height < 1000 }
+    ensures { Gets result (tall (tree.cast first.line first.at ty (expr_of operand.expr)) (operand.height + 1)) }
+{
+    let height = operand.height + 1;
+    let operand = Box::new(alloc, operand.expr)?;
+    Ok(High { expr: Expr { line: first.line, token: first.at, kind: ExprKind::Cast(ty, operand) }, height })
+}
+
+/// A subscript behind an operand that begins at `first`.
+pub(crate) fn index_node(alloc: Global, first: Place, base: High, subscript: High) -> Result<High, ReadFail>
+    requires base { base.height < 1000 }
+    requires subscript { subscript.height < 1000 }
+    ensures { Gets result (tall (tree.index first.line first.token (expr_of base.expr) (expr_of subscript.expr)) (max base.height subscript.height + 1)) }
+{
+    let height = base.height.max(subscript.height) + 1;
+    let base = Box::new(alloc, base.expr)?;
+    let subscript = Box::new(alloc, subscript.expr)?;
+    Ok(High { expr: Expr { line: first.line, token: first.token, kind: ExprKind::Index(base, subscript) }, height })
+}
+
+/// An operator between its operands, of which the left begins at `first`.
+pub(crate) fn binary_node(alloc: Global, first: Place, op: BinOp, left: High, right: High) -> Result<High, ReadFail>
+    requires left { left.height < 1000 }
+    requires right { right.height < 1000 }
+    ensures { Gets result (tall (tree.binary first.line first.token op (expr_of left.expr) (expr_of right.expr)) (max left.height right.height + 1)) }
+{
+    let height = left.height.max(right.height) + 1;
+    let left = Box::new(alloc, left.expr)?;
+    let right = Box::new(alloc, right.expr)?;
+    Ok(High { expr: Expr { line: first.line, token: first.token, kind: ExprKind::Binary(op, left, right) }, height })
+}
+
+/// A conditional expression whose condition begins at `first`.
+pub(crate) fn choice_node(alloc: Global, first: Place, condition: High, yes: High, other: High) -> Result<High, ReadFail>
+    requires condition { condition.height < 1000 }
+    requires yes { yes.height < 1000 }
+    requires other { other.height < 1000 }
+    ensures { Gets result (tall (tree.choice first.line first.token (expr_of condition.expr) (expr_of yes.expr) (expr_of other.expr))
+        (max condition.height (max yes.height other.height) + 1)) }
+{
+    let height = condition.height.max(yes.height.max(other.height)) + 1;
+    let condition = Box::new(alloc, condition.expr)?;
+    let yes = Box::new(alloc, yes.expr)?;
+    let other = Box::new(alloc, other.expr)?;
+    Ok(High { expr: Expr { line: first.line, token: first.token, kind: ExprKind::Cond(condition, yes, other) }, height })
 }

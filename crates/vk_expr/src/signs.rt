@@ -3,6 +3,7 @@
 ghost use Rattle.std.specs.Prelude.{◌≡◌, ◌≤◌, ◌<◌, IfSome};
 ghost use Rattle.vk_grammar.specs.Symbols as spec;
 
+use crate::nodes::Place;
 use vk_ast::{BinOp, UnOp};
 use vk_grammar::{Keyword, Operator, Prefix, Sym, SymKind};
 use vk_tokens::Mark;
@@ -17,23 +18,24 @@ pub fn kind_at(syms: &[Sym]) -> Option<SymKind>
     }
 }
 
-/// The line of the first token, or 0 at the end.
-pub fn line_at(syms: &[Sym]) -> u32
-    ensures { result ≡ spec.line_at syms.now }
+/// Where the first token stands, or 0 and 0 at the end.
+pub fn place_at(syms: &[Sym]) -> Place
+    ensures line { result.line ≡ spec.line_at syms.now }
+    ensures token { result.token ≡ spec.number_at syms.now }
 {
     match syms {
-        [] => 0,
-        [first, ..] => first.line,
+        [] => Place { line: 0, token: 0 },
+        [first, ..] => place_of(first),
     }
 }
 
-/// The number of the first token, or 0 at the end.
-pub fn number_at(syms: &[Sym]) -> u32
-    ensures { result ≡ spec.number_at syms.now }
+/// Where this token stands.
+pub fn place_of(sym: &Sym) -> Place
+    ensures { result ≡ record { line = sym.now.line; token = sym.now.at } }
 {
-    match syms {
-        [] => 0,
-        [first, ..] => first.at,
+    Place {
+        line: sym.line,
+        token: sym.at,
     }
 }
 
