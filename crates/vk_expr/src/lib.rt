@@ -3,6 +3,7 @@
 
 pub mod fail;
 pub mod nodes;
+pub mod read;
 mod reader;
 pub mod signs;
 pub mod steps;
@@ -10,3 +11,4 @@ pub mod words;
 
 pub use fail::ReadFail;
 pub use nodes::High;
+pub use read::{read_expr, read_full, read_unary};
