@@ -1,6 +1,6 @@
 -- Texts and the trees that are read of them.
-use Rattle.std.proofs.Common.{◌≡◌, ℕ, List, [], ◌∷◌, Result, Ok, Err, refl}
-use Rattle.vk_types.specs.declared.types.Ty.TheVariants.{I32, U32}
+use Rattle.std.proofs.Common.{◌≡◌, ℕ, List, [], ◌∷◌, Option, Some, None, Result, Ok, Err, refl}
+use Rattle.vk_types.specs.declared.types.Ty.TheVariants.{I8, I16, I32, U32, U64}
 use Rattle.vk_ast.specs.declared.names.NameId.{NameId}
 use Rattle.vk_ast.specs.declared.expressions.BinOp.TheVariants as op
 use Rattle.vk_ast.specs.declared.expressions.UnOp.TheVariants as sign
@@ -91,3 +91,33 @@ two_names a b = refl
 cut_short : (a : NameId) → reads 64 (is_name 0 a ∷ is_mark 1 mark.Plus ∷ []) ≡ Err (Syntax 0)
 unfolding reads
 cut_short a = refl
+
+-- ---- words of types
+
+long_long : type_of (word.Long ∷ word.Unsigned ∷ word.Int ∷ word.Long ∷ []) ≡ Some U64
+unfolding type_of type_table
+long_long = refl
+
+signed_char : type_of (word.Char ∷ word.Signed ∷ []) ≡ Some I8
+unfolding type_of type_table
+signed_char = refl
+
+plain_char : type_of (word.Char ∷ []) ≡ None
+unfolding type_of type_table
+plain_char = refl
+
+both_signs : type_of (word.Signed ∷ word.Unsigned ∷ word.Int ∷ []) ≡ None
+unfolding type_of type_table
+both_signs = refl
+
+three_longs : type_of (word.Long ∷ word.Long ∷ word.Long ∷ []) ≡ None
+unfolding type_of type_table
+three_longs = refl
+
+fixed_width : type_of (word.Int16 ∷ []) ≡ Some I16
+unfolding type_of type_table
+fixed_width = refl
+
+no_int_of_it : type_of (word.Int16 ∷ word.Int ∷ []) ≡ None
+unfolding type_of type_table
+no_int_of_it = refl
