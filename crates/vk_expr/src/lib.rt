@@ -10,5 +10,5 @@ pub mod steps;
 pub mod words;
 
 pub use fail::ReadFail;
-pub use nodes::High;
-pub use read::{read_expr, read_full, read_unary};
+pub use nodes::{High, Place};
+pub use read::{read_expr, read_full, read_onwards, read_unary};

@@ -425,3 +425,39 @@ fn conditional<'a>(alloc: Global, below: u32, syms: &'a [Sym]) -> Result<(High, 
     let (condition, rest) = level(alloc, below, 10, syms)?;
     choices(alloc, below, first, condition, rest)
 }
+
+// What goes on behind an operand of level 0 that begins at `first`, up to the operators of level `n`.
+#[tactic(auto, unfolding(vk_grammar::specs::Reading::climb))]
+fn climb<'a>(alloc: Global, below: u32, n: u32, first: Place, left: High, syms: &'a [Sym]) -> Result<(High, &'a [Sym]), ReadFail>
+    requires below { below < 64 }
+    requires level { n ≤ 10 }
+    requires some { 1 ≤ left.height }
+    requires high { left.height ≤ below + 1 }
+    ensures value { (turns : ℕ) → length syms.now < turns
+        → Reads result (spec.climb below turns (spec.expression turns below) n first.line first.token (seen left) syms.now) }
+    ensures shorter { IfOk result (λ x. length x.1.now ≤ length syms.now) }
+    ensures some { IfOk result (λ x. 1 ≤ x.0.height) }
+    ensures high { IfOk result (λ x. x.0.height ≤ below + 1) }
+{
+    if n == 0 {
+        return Ok((left, syms));
+    }
+    let (left, rest) = climb(alloc, below, n - 1, first, left, syms)?;
+    operators(alloc, below, n - 1, first, left, rest)
+}
+
+/// What goes on behind an operand of level 0 that begins at `first`: operators of every level, and `?`.
+#[tactic(auto, unfolding(vk_grammar::specs::Reading::onwards))]
+pub(crate) fn onwards<'a>(alloc: Global, below: u32, first: Place, left: High, syms: &'a [Sym]) -> Result<(High, &'a [Sym]), ReadFail>
+    requires below { below < 64 }
+    requires some { 1 ≤ left.height }
+    requires high { left.height ≤ below + 1 }
+    ensures value { (turns : ℕ) → length syms.now < turns
+        → Reads result (spec.onwards below turns (spec.expression turns below) first.line first.token (seen left) syms.now) }
+    ensures shorter { IfOk result (λ x. length x.1.now ≤ length syms.now) }
+    ensures some { IfOk result (λ x. 1 ≤ x.0.height) }
+    ensures high { IfOk result (λ x. x.0.height ≤ below + 1) }
+{
+    let (condition, rest) = climb(alloc, below, 10, first, left, syms)?;
+    choices(alloc, below, first, condition, rest)
+}
