@@ -12,7 +12,7 @@ use Rattle.vk_grammar.specs.Reading.{expression, operators, operator_step, right
 module _ (below turns l k : ℕ) (w r s : List Sym) (t : Sym) (a b : Tall) where
   operator_turn : (m n : ℕ) (o : BinOp) → operator_at (n + 1) (head w) ≡ Some o → a.height ≤ below → take w ≡ Ok (t, r) → expression turns below (level n) r ≡ Ok (b, s)
       → operators below turns (expression turns below) (suc m) n l k a w
-        ≡ operators below turns (expression turns below) m n l k (tall (binary l k o a.tree b.tree) (max a.height b.height + 1)) s
+      ≡ operators below turns (expression turns below) m n l k (tall (binary l k o a.tree b.tree) (max a.height b.height + 1)) s
   unfolding operators operator_step right_operand
   operator_turn m n o here low first right =
       let next : suc n ≡ n + 1 = omega arith in
@@ -34,7 +34,7 @@ module _ (below turns l k : ℕ) (w r s z : List Sym) (t v : Sym) (a b : Tall) w
   subscript_turn : (m : ℕ) → is_sign mark.OpenBracket (head w) ≡ true → a.height ≤ below → take w ≡ Ok (t, r) → expression turns below full r ≡ Ok (b, s)
       → expect mark.CloseBracket s ≡ Ok (v, z)
       → subscripts below turns (expression turns below) (suc m) l k a w
-        ≡ subscripts below turns (expression turns below) m l k (tall (index l k a.tree b.tree) (max a.height b.height + 1)) z
+      ≡ subscripts below turns (expression turns below) m l k (tall (index l k a.tree b.tree) (max a.height b.height + 1)) z
   unfolding subscripts subscript_step subscript
   subscript_turn m here low first inner last =
       let high : suc (max a.height b.height) ≡ max a.height b.height + 1 = omega arith in

@@ -20,7 +20,7 @@ parts_read (suc n) (t ∷ w) l = by_part (is_type_part (Some t.kind)) (parts_rea
   where
     by_part : (b : Bool) → Path (Result (List Sym × List Sym) Fault) (many n is_type_part take_one w) (Ok (take (part_count w) w, drop (part_count w) w))
         → Path (Result (List Sym × List Sym) Fault) (pick b (take_one >>= (λ a. many n is_type_part take_one >>= (λ list. pure (a ∷ list)))) (pure []) (t ∷ w))
-          (Ok (take (cond b (1 + part_count w) 0) (t ∷ w), drop (cond b (1 + part_count w) 0) (t ∷ w)))
+        (Ok (take (cond b (1 + part_count w) 0) (t ∷ w), drop (cond b (1 + part_count w) 0) (t ∷ w)))
     by_part true e = let one : suc (part_count w) ≡ 1 + part_count w = omega arith in ap (λ read. then_do read (λ list. pure (t ∷ list))) e ∙ ap (λ (n : ℕ). Ok (take n (t ∷ w), drop n (t ∷ w))) one
     by_part false e = refl
 

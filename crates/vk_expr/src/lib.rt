@@ -12,3 +12,6 @@ pub mod words;
 pub use fail::ReadFail;
 pub use nodes::{High, Place};
 pub use read::{read_expr, read_full, read_onwards, read_unary};
+
+#[cfg(test)]
+mod tests;

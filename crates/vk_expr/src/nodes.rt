@@ -28,7 +28,7 @@ pub struct Place {
 
 /// Arguments, with the greatest of their heights.
 #[derive(Drop)]
-pub struct Arguments {
+pub(crate) struct Arguments {
     pub list: Vec<Expr>,
     pub height: u32,
 }
@@ -38,7 +38,11 @@ pub(crate) fn int_node(first: Sym, ty: Ty, value: u64) -> High
     ensures { seen result ≡ tall (tree.int first.line first.at ty value) 1 }
 {
     High {
-        expr: Expr { line: first.line, token: first.at, kind: ExprKind::Int(ty, value) },
+        expr: Expr {
+            line: first.line,
+            token: first.at,
+            kind: ExprKind::Int(ty, value),
+        },
         height: 1,
     }
 }
@@ -48,7 +52,11 @@ pub(crate) fn name_node(first: Sym, id: NameId) -> High
     ensures { seen result ≡ tall (tree.name first.line first.at id) 1 }
 {
     High {
-        expr: Expr { line: first.line, token: first.at, kind: ExprKind::Name(id) },
+        expr: Expr {
+            line: first.line,
+            token: first.at,
+            kind: ExprKind::Name(id),
+        },
         height: 1,
     }
 }
@@ -59,13 +67,22 @@ pub(crate) fn call_node(first: Sym, id: NameId, arguments: Arguments) -> High
     ensures { seen result ≡ tall (tree.call first.line first.at id (exprs_of arguments.list.items)) (arguments.height + 1) }
 {
     High {
-        expr: Expr { line: first.line, token: first.at, kind: ExprKind::Call(id, arguments.list) },
+        expr: Expr {
+            line: first.line,
+            token: first.at,
+            kind: ExprKind::Call(id, arguments.list),
+        },
         height: arguments.height + 1,
     }
 }
 
 /// A sign before an operand.
-pub(crate) fn prefix_node(alloc: Global, first: Sym, prefix: Prefix, operand: High) -> Result<High, ReadFail>
+pub(crate) fn prefix_node(
+    alloc: Global,
+    first: Sym,
+    prefix: Prefix,
+    operand: High,
+) -> Result<High, ReadFail>
     requires { operand.height < 1000 }
     ensures { Gets result (tall (prefixed prefix first.line first.at (expr_of operand.expr)) (operand.height + 1)) }
 {
@@ -76,7 +93,14 @@ pub(crate) fn prefix_node(alloc: Global, first: Sym, prefix: Prefix, operand: Hi
         Prefix::Addr => ExprKind::Addr(operand),
         Prefix::Unary(op) => ExprKind::Unary(op, operand),
     };
-    Ok(High { expr: Expr { line: first.line, token: first.at, kind }, height })
+    Ok(High {
+        expr: Expr {
+            line: first.line,
+            token: first.at,
+            kind,
+        },
+        height,
+    })
 }
 
 /// A cast.
@@ -86,11 +110,23 @@ pub(crate) fn cast_node(alloc: Global, first: Sym, ty: Ty, operand: High) -> Res
 {
     let height = operand.height + 1;
     let operand = Box::new(alloc, operand.expr)?;
-    Ok(High { expr: Expr { line: first.line, token: first.at, kind: ExprKind::Cast(ty, operand) }, height })
+    Ok(High {
+        expr: Expr {
+            line: first.line,
+            token: first.at,
+            kind: ExprKind::Cast(ty, operand),
+        },
+        height,
+    })
 }
 
 /// A subscript behind an operand that begins at `first`.
-pub(crate) fn index_node(alloc: Global, first: Place, base: High, subscript: High) -> Result<High, ReadFail>
+pub(crate) fn index_node(
+    alloc: Global,
+    first: Place,
+    base: High,
+    subscript: High,
+) -> Result<High, ReadFail>
     requires base { base.height < 1000 }
     requires subscript { subscript.height < 1000 }
     ensures { Gets result (tall (tree.index first.line first.token (expr_of base.expr) (expr_of subscript.expr)) (max base.height subscript.height + 1)) }
@@ -98,11 +134,24 @@ pub(crate) fn index_node(alloc: Global, first: Place, base: High, subscript: Hig
     let height = base.height.max(subscript.height) + 1;
     let base = Box::new(alloc, base.expr)?;
     let subscript = Box::new(alloc, subscript.expr)?;
-    Ok(High { expr: Expr { line: first.line, token: first.token, kind: ExprKind::Index(base, subscript) }, height })
+    Ok(High {
+        expr: Expr {
+            line: first.line,
+            token: first.token,
+            kind: ExprKind::Index(base, subscript),
+        },
+        height,
+    })
 }
 
 /// An operator between its operands, of which the left begins at `first`.
-pub(crate) fn binary_node(alloc: Global, first: Place, op: BinOp, left: High, right: High) -> Result<High, ReadFail>
+pub(crate) fn binary_node(
+    alloc: Global,
+    first: Place,
+    op: BinOp,
+    left: High,
+    right: High,
+) -> Result<High, ReadFail>
     requires left { left.height < 1000 }
     requires right { right.height < 1000 }
     ensures { Gets result (tall (tree.binary first.line first.token op (expr_of left.expr) (expr_of right.expr)) (max left.height right.height + 1)) }
@@ -110,11 +159,24 @@ pub(crate) fn binary_node(alloc: Global, first: Place, op: BinOp, left: High, ri
     let height = left.height.max(right.height) + 1;
     let left = Box::new(alloc, left.expr)?;
     let right = Box::new(alloc, right.expr)?;
-    Ok(High { expr: Expr { line: first.line, token: first.token, kind: ExprKind::Binary(op, left, right) }, height })
+    Ok(High {
+        expr: Expr {
+            line: first.line,
+            token: first.token,
+            kind: ExprKind::Binary(op, left, right),
+        },
+        height,
+    })
 }
 
 /// A conditional expression whose condition begins at `first`.
-pub(crate) fn choice_node(alloc: Global, first: Place, condition: High, yes: High, other: High) -> Result<High, ReadFail>
+pub(crate) fn choice_node(
+    alloc: Global,
+    first: Place,
+    condition: High,
+    yes: High,
+    other: High,
+) -> Result<High, ReadFail>
     requires condition { condition.height < 1000 }
     requires yes { yes.height < 1000 }
     requires other { other.height < 1000 }
@@ -125,5 +187,12 @@ pub(crate) fn choice_node(alloc: Global, first: Place, condition: High, yes: Hig
     let condition = Box::new(alloc, condition.expr)?;
     let yes = Box::new(alloc, yes.expr)?;
     let other = Box::new(alloc, other.expr)?;
-    Ok(High { expr: Expr { line: first.line, token: first.token, kind: ExprKind::Cond(condition, yes, other) }, height })
+    Ok(High {
+        expr: Expr {
+            line: first.line,
+            token: first.token,
+            kind: ExprKind::Cond(condition, yes, other),
+        },
+        height,
+    })
 }

@@ -20,7 +20,7 @@ const MOST_LEVELS: u32 = 64;
 pub fn read_full<'a>(alloc: Global, syms: &'a [Sym]) -> Result<(High, &'a [Sym]), ReadFail>
     ensures value { (turns : ℕ) → length syms.now < turns → Reads result (spec.expression turns 64 full syms.now) }
     ensures shorter { IfOk result (λ x. length x.1.now + 1 ≤ length syms.now) }
-    ensures some { IfOk result (λ x. 1 ≤ x.0.height) }
+    ensures low { IfOk result (λ x. 1 ≤ x.0.height) }
     ensures high { IfOk result (λ x. x.0.height ≤ 64) }
 {
     expression(alloc, MOST_LEVELS, syms)
@@ -30,20 +30,25 @@ pub fn read_full<'a>(alloc: Global, syms: &'a [Sym]) -> Result<(High, &'a [Sym])
 pub fn read_unary<'a>(alloc: Global, syms: &'a [Sym]) -> Result<(High, &'a [Sym]), ReadFail>
     ensures value { (turns : ℕ) → length syms.now < turns → Reads result (spec.expression turns 64 (level 0) syms.now) }
     ensures shorter { IfOk result (λ x. length x.1.now + 1 ≤ length syms.now) }
-    ensures some { IfOk result (λ x. 1 ≤ x.0.height) }
+    ensures low { IfOk result (λ x. 1 ≤ x.0.height) }
     ensures high { IfOk result (λ x. x.0.height ≤ 64) }
 {
     operand(alloc, MOST_LEVELS, 0, syms)
 }
 
 /// What goes on behind a `unary` that begins at `first`, to a whole `cond` of at most 64 levels, and the tokens behind it.
-pub fn read_onwards<'a>(alloc: Global, first: Place, left: High, syms: &'a [Sym]) -> Result<(High, &'a [Sym]), ReadFail>
-    requires some { 1 ≤ left.height }
+pub fn read_onwards<'a>(
+    alloc: Global,
+    first: Place,
+    left: High,
+    syms: &'a [Sym],
+) -> Result<(High, &'a [Sym]), ReadFail>
+    requires low { 1 ≤ left.height }
     requires high { left.height ≤ 64 }
     ensures value { (turns : ℕ) → length syms.now < turns
         → Reads result (spec.onwards 63 turns (spec.expression turns 63) first.line first.token (seen left) syms.now) }
     ensures shorter { IfOk result (λ x. length x.1.now ≤ length syms.now) }
-    ensures some { IfOk result (λ x. 1 ≤ x.0.height) }
+    ensures low { IfOk result (λ x. 1 ≤ x.0.height) }
     ensures high { IfOk result (λ x. x.0.height ≤ 64) }
 {
     onwards(alloc, MOST_LEVELS - 1, first, left, syms)

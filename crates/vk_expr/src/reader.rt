@@ -11,10 +11,12 @@ ghost use Rattle.vk_expr.specs.Answers.{seen, Gives, Reads, summed};
 
 use crate::fail::ReadFail;
 use crate::nodes::{
-    binary_node, call_node, cast_node, choice_node, index_node, int_node, name_node, prefix_node,
-    Arguments, High, Place,
+    Arguments, High, Place, binary_node, call_node, cast_node, choice_node, index_node, int_node,
+    name_node, prefix_node,
 };
-use crate::signs::{is_sign, is_start, is_type_part, kind_at, operator_at, place_at, place_of, prefix_at};
+use crate::signs::{
+    is_sign, is_start, is_type_part, kind_at, operator_at, place_at, place_of, prefix_at,
+};
 use crate::steps::{expect, take};
 use crate::words::{type_in, type_words};
 use std::alloc::Global;
@@ -38,11 +40,15 @@ fn nothing<'a>(syms: &'a [Sym]) -> Result<(High, &'a [Sym]), ReadFail>
 /// A whole `cond`, of a height of at most `below`.
 #[cycle(reading)]
 #[tactic(auto, unfolding(vk_grammar::specs::Reading::expression))]
-pub(crate) fn expression<'a>(alloc: Global, below: u32, syms: &'a [Sym]) -> Result<(High, &'a [Sym]), ReadFail>
+pub(crate) fn expression<'a>(
+    alloc: Global,
+    below: u32,
+    syms: &'a [Sym],
+) -> Result<(High, &'a [Sym]), ReadFail>
     requires { below ≤ 64 }
     ensures value { (turns : ℕ) → length syms.now < turns → Reads result (spec.expression turns below full syms.now) }
     ensures shorter { IfOk result (λ x. length x.1.now + 1 ≤ length syms.now) }
-    ensures some { IfOk result (λ x. 1 ≤ x.0.height) }
+    ensures low { IfOk result (λ x. 1 ≤ x.0.height) }
     ensures high { IfOk result (λ x. x.0.height ≤ below) }
 {
     if below == 0 {
@@ -55,12 +61,17 @@ pub(crate) fn expression<'a>(alloc: Global, below: u32, syms: &'a [Sym]) -> Resu
 /// An operand of an operator of the level above, of a height of at most `below`.
 #[cycle(reading)]
 #[tactic(auto, unfolding(vk_grammar::specs::Reading::expression))]
-pub(crate) fn operand<'a>(alloc: Global, below: u32, n: u32, syms: &'a [Sym]) -> Result<(High, &'a [Sym]), ReadFail>
+pub(crate) fn operand<'a>(
+    alloc: Global,
+    below: u32,
+    n: u32,
+    syms: &'a [Sym],
+) -> Result<(High, &'a [Sym]), ReadFail>
     requires below { below ≤ 64 }
     requires level { n ≤ 10 }
     ensures value { (turns : ℕ) → length syms.now < turns → Reads result (spec.expression turns below (at_level n) syms.now) }
     ensures shorter { IfOk result (λ x. length x.1.now + 1 ≤ length syms.now) }
-    ensures some { IfOk result (λ x. 1 ≤ x.0.height) }
+    ensures low { IfOk result (λ x. 1 ≤ x.0.height) }
     ensures high { IfOk result (λ x. x.0.height ≤ below) }
 {
     if below == 0 {
@@ -73,7 +84,11 @@ pub(crate) fn operand<'a>(alloc: Global, below: u32, n: u32, syms: &'a [Sym]) ->
 // The arguments before a `)`.
 #[cycle(reading)]
 #[tactic(auto, unfolding(vk_grammar::specs::Reading::arguments))]
-fn arguments<'a>(alloc: Global, below: u32, syms: &'a [Sym]) -> Result<(Arguments, &'a [Sym]), ReadFail>
+fn arguments<'a>(
+    alloc: Global,
+    below: u32,
+    syms: &'a [Sym],
+) -> Result<(Arguments, &'a [Sym]), ReadFail>
     requires { below < 64 }
     ensures value { (turns : ℕ) → length syms.now < turns
         → Gives (λ x. ((exprs_of x.0.list.items, x.0.height), x.1.now)) result (summed (spec.arguments below turns (spec.expression turns below)) syms.now) }
@@ -81,7 +96,10 @@ fn arguments<'a>(alloc: Global, below: u32, syms: &'a [Sym]) -> Result<(Argument
     ensures high { IfOk result (λ x. x.0.height ≤ below) }
 {
     if is_sign(Mark::CloseParen, kind_at(syms)) {
-        let none = Arguments { list: Vec::new(alloc), height: 0 };
+        let none = Arguments {
+            list: Vec::new(alloc),
+            height: 0,
+        };
         return Ok((none, syms));
     }
     some_arguments(alloc, below, syms)
@@ -89,7 +107,11 @@ fn arguments<'a>(alloc: Global, below: u32, syms: &'a [Sym]) -> Result<(Argument
 
 #[cycle(reading)]
 #[tactic(auto, unfolding(vk_grammar::specs::Reading::some_arguments))]
-fn some_arguments<'a>(alloc: Global, below: u32, syms: &'a [Sym]) -> Result<(Arguments, &'a [Sym]), ReadFail>
+fn some_arguments<'a>(
+    alloc: Global,
+    below: u32,
+    syms: &'a [Sym],
+) -> Result<(Arguments, &'a [Sym]), ReadFail>
     requires { below < 64 }
     ensures value { (turns : ℕ) → length syms.now < turns
         → Gives (λ x. ((exprs_of x.0.list.items, x.0.height), x.1.now)) result (summed (spec.some_arguments below turns (spec.expression turns below)) syms.now) }
@@ -115,7 +137,11 @@ fn some_arguments<'a>(alloc: Global, below: u32, syms: &'a [Sym]) -> Result<(Arg
 // An argument behind a comma.
 #[cycle(reading)]
 #[tactic(auto, unfolding(vk_grammar::specs::Reading::later_argument))]
-fn later_argument<'a>(alloc: Global, below: u32, syms: &'a [Sym]) -> Result<(High, &'a [Sym]), ReadFail>
+fn later_argument<'a>(
+    alloc: Global,
+    below: u32,
+    syms: &'a [Sym],
+) -> Result<(High, &'a [Sym]), ReadFail>
     requires { below < 64 }
     ensures value { (turns : ℕ) → length syms.now < turns → Reads result (spec.later_argument below turns (spec.expression turns below) syms.now) }
     ensures shorter { IfOk result (λ x. length x.1.now + 1 ≤ length syms.now) }
@@ -128,11 +154,17 @@ fn later_argument<'a>(alloc: Global, below: u32, syms: &'a [Sym]) -> Result<(Hig
 // A call, behind its name, at the `(`.
 #[cycle(reading)]
 #[tactic(auto, unfolding(vk_grammar::specs::Reading::call_of))]
-fn call_of<'a>(alloc: Global, below: u32, first: Sym, id: NameId, syms: &'a [Sym]) -> Result<(High, &'a [Sym]), ReadFail>
+fn call_of<'a>(
+    alloc: Global,
+    below: u32,
+    first: Sym,
+    id: NameId,
+    syms: &'a [Sym],
+) -> Result<(High, &'a [Sym]), ReadFail>
     requires { below < 64 }
     ensures value { (turns : ℕ) → length syms.now < turns → Reads result (spec.call_of below turns (spec.expression turns below) first.line first.at id syms.now) }
     ensures shorter { IfOk result (λ x. length x.1.now ≤ length syms.now) }
-    ensures some { IfOk result (λ x. 1 ≤ x.0.height) }
+    ensures low { IfOk result (λ x. 1 ≤ x.0.height) }
     ensures high { IfOk result (λ x. x.0.height ≤ below + 1) }
 {
     let (_, rest) = take(syms)?;
@@ -144,11 +176,17 @@ fn call_of<'a>(alloc: Global, below: u32, first: Sym, id: NameId, syms: &'a [Sym
 // Behind a name: a call, or the name alone.
 #[cycle(reading)]
 #[tactic(auto, unfolding(vk_grammar::specs::Reading::named))]
-fn named<'a>(alloc: Global, below: u32, first: Sym, id: NameId, syms: &'a [Sym]) -> Result<(High, &'a [Sym]), ReadFail>
+fn named<'a>(
+    alloc: Global,
+    below: u32,
+    first: Sym,
+    id: NameId,
+    syms: &'a [Sym],
+) -> Result<(High, &'a [Sym]), ReadFail>
     requires { below < 64 }
     ensures value { (turns : ℕ) → length syms.now < turns → Reads result (spec.named below turns (spec.expression turns below) id first syms.now) }
     ensures shorter { IfOk result (λ x. length x.1.now ≤ length syms.now) }
-    ensures some { IfOk result (λ x. 1 ≤ x.0.height) }
+    ensures low { IfOk result (λ x. 1 ≤ x.0.height) }
     ensures high { IfOk result (λ x. x.0.height ≤ below + 1) }
 {
     if is_sign(Mark::OpenParen, kind_at(syms)) {
@@ -165,7 +203,7 @@ fn atom<'a>(alloc: Global, below: u32, syms: &'a [Sym]) -> Result<(High, &'a [Sy
     requires { below < 64 }
     ensures value { (turns : ℕ) → length syms.now < turns → Reads result (spec.atom below turns (spec.expression turns below) syms.now) }
     ensures shorter { IfOk result (λ x. length x.1.now + 1 ≤ length syms.now) }
-    ensures some { IfOk result (λ x. 1 ≤ x.0.height) }
+    ensures low { IfOk result (λ x. 1 ≤ x.0.height) }
     ensures high { IfOk result (λ x. x.0.height ≤ below + 1) }
 {
     match kind_at(syms) {
@@ -184,14 +222,20 @@ fn atom<'a>(alloc: Global, below: u32, syms: &'a [Sym]) -> Result<(High, &'a [Sy
 // The subscripts behind an operand that begins at `first`.
 #[cycle(reading)]
 #[tactic(auto, unfolding(vk_grammar::specs::Reading::subscripts, vk_grammar::specs::Reading::subscript_step, vk_grammar::specs::Reading::subscript))]
-fn subscripts<'a>(alloc: Global, below: u32, first: Place, base: High, syms: &'a [Sym]) -> Result<(High, &'a [Sym]), ReadFail>
+fn subscripts<'a>(
+    alloc: Global,
+    below: u32,
+    first: Place,
+    base: High,
+    syms: &'a [Sym],
+) -> Result<(High, &'a [Sym]), ReadFail>
     requires below { below < 64 }
-    requires some { 1 ≤ base.height }
+    requires low { 1 ≤ base.height }
     requires high { base.height ≤ below + 1 }
     ensures value { (turns m : ℕ) → length syms.now < turns → below < m + base.height
         → Reads result (spec.subscripts below turns (spec.expression turns below) (suc m) first.line first.token (seen base) syms.now) }
     ensures shorter { IfOk result (λ x. length x.1.now ≤ length syms.now) }
-    ensures some { IfOk result (λ x. 1 ≤ x.0.height) }
+    ensures low { IfOk result (λ x. 1 ≤ x.0.height) }
     ensures high { IfOk result (λ x. x.0.height ≤ below + 1) }
 {
     if !is_sign(Mark::OpenBracket, kind_at(syms)) {
@@ -214,7 +258,7 @@ fn post<'a>(alloc: Global, below: u32, syms: &'a [Sym]) -> Result<(High, &'a [Sy
     requires { below < 64 }
     ensures value { (turns : ℕ) → length syms.now < turns → Reads result (spec.post below turns (spec.expression turns below) syms.now) }
     ensures shorter { IfOk result (λ x. length x.1.now + 1 ≤ length syms.now) }
-    ensures some { IfOk result (λ x. 1 ≤ x.0.height) }
+    ensures low { IfOk result (λ x. 1 ≤ x.0.height) }
     ensures high { IfOk result (λ x. x.0.height ≤ below + 1) }
 {
     let first = place_at(syms);
@@ -229,22 +273,33 @@ fn group<'a>(alloc: Global, below: u32, syms: &'a [Sym]) -> Result<(High, &'a [S
     requires { below < 64 }
     ensures value { (turns : ℕ) → length syms.now < turns → Reads result (spec.group below turns (spec.expression turns below) syms.now) }
     ensures shorter { IfOk result (λ x. length x.1.now ≤ length syms.now) }
-    ensures some { IfOk result (λ x. 1 ≤ x.0.height) }
+    ensures low { IfOk result (λ x. 1 ≤ x.0.height) }
     ensures high { IfOk result (λ x. x.0.height ≤ below + 1) }
 {
     let (inner, rest) = expression(alloc, below, syms)?;
     let (_, rest) = expect(Mark::CloseParen, rest)?;
-    Ok((High { expr: inner.expr, height: inner.height + 1 }, rest))
+    Ok((
+        High {
+            expr: inner.expr,
+            height: inner.height + 1,
+        },
+        rest,
+    ))
 }
 
 // A cast, behind its `(`, which is `first`.
 #[cycle(reading)]
 #[tactic(auto, unfolding(vk_grammar::specs::Reading::cast_of))]
-fn cast_of<'a>(alloc: Global, below: u32, first: Sym, syms: &'a [Sym]) -> Result<(High, &'a [Sym]), ReadFail>
+fn cast_of<'a>(
+    alloc: Global,
+    below: u32,
+    first: Sym,
+    syms: &'a [Sym],
+) -> Result<(High, &'a [Sym]), ReadFail>
     requires { below < 64 }
     ensures value { (turns : ℕ) → length syms.now < turns → Reads result (spec.cast_of below turns (spec.expression turns below) first.line first.at syms.now) }
     ensures shorter { IfOk result (λ x. length x.1.now ≤ length syms.now) }
-    ensures some { IfOk result (λ x. 1 ≤ x.0.height) }
+    ensures low { IfOk result (λ x. 1 ≤ x.0.height) }
     ensures high { IfOk result (λ x. x.0.height ≤ below + 1) }
 {
     let (words, rest) = type_words(syms)?;
@@ -256,11 +311,16 @@ fn cast_of<'a>(alloc: Global, below: u32, first: Sym, syms: &'a [Sym]) -> Result
 // Behind a `(`, which is `first`: a cast, or an expression in parentheses and its subscripts.
 #[cycle(reading)]
 #[tactic(auto, unfolding(vk_grammar::specs::Reading::behind_paren))]
-fn behind_paren<'a>(alloc: Global, below: u32, first: Sym, syms: &'a [Sym]) -> Result<(High, &'a [Sym]), ReadFail>
+fn behind_paren<'a>(
+    alloc: Global,
+    below: u32,
+    first: Sym,
+    syms: &'a [Sym],
+) -> Result<(High, &'a [Sym]), ReadFail>
     requires { below < 64 }
     ensures value { (turns : ℕ) → length syms.now < turns → Reads result (spec.behind_paren below turns (spec.expression turns below) first syms.now) }
     ensures shorter { IfOk result (λ x. length x.1.now ≤ length syms.now) }
-    ensures some { IfOk result (λ x. 1 ≤ x.0.height) }
+    ensures low { IfOk result (λ x. 1 ≤ x.0.height) }
     ensures high { IfOk result (λ x. x.0.height ≤ below + 1) }
 {
     if is_type_part(kind_at(syms)) {
@@ -277,7 +337,7 @@ fn paren<'a>(alloc: Global, below: u32, syms: &'a [Sym]) -> Result<(High, &'a [S
     requires { below < 64 }
     ensures value { (turns : ℕ) → length syms.now < turns → Reads result (spec.paren below turns (spec.expression turns below) syms.now) }
     ensures shorter { IfOk result (λ x. length x.1.now + 1 ≤ length syms.now) }
-    ensures some { IfOk result (λ x. 1 ≤ x.0.height) }
+    ensures low { IfOk result (λ x. 1 ≤ x.0.height) }
     ensures high { IfOk result (λ x. x.0.height ≤ below + 1) }
 {
     if below == 0 {
@@ -290,11 +350,16 @@ fn paren<'a>(alloc: Global, below: u32, syms: &'a [Sym]) -> Result<(High, &'a [S
 // At a sign before an operand.
 #[cycle(reading)]
 #[tactic(auto, unfolding(vk_grammar::specs::Reading::prefix_sign, vk_grammar::specs::Reading::prefix_operand))]
-fn prefix_sign<'a>(alloc: Global, below: u32, prefix: Prefix, syms: &'a [Sym]) -> Result<(High, &'a [Sym]), ReadFail>
+fn prefix_sign<'a>(
+    alloc: Global,
+    below: u32,
+    prefix: Prefix,
+    syms: &'a [Sym],
+) -> Result<(High, &'a [Sym]), ReadFail>
     requires { below < 64 }
     ensures value { (turns : ℕ) → length syms.now < turns → Reads result (spec.prefix_sign below turns (spec.expression turns below) prefix syms.now) }
     ensures shorter { IfOk result (λ x. length x.1.now + 1 ≤ length syms.now) }
-    ensures some { IfOk result (λ x. 1 ≤ x.0.height) }
+    ensures low { IfOk result (λ x. 1 ≤ x.0.height) }
     ensures high { IfOk result (λ x. x.0.height ≤ below + 1) }
 {
     if below == 0 {
@@ -312,7 +377,7 @@ fn unary<'a>(alloc: Global, below: u32, syms: &'a [Sym]) -> Result<(High, &'a [S
     requires { below < 64 }
     ensures value { (turns : ℕ) → length syms.now < turns → Reads result (spec.unaries below turns (spec.expression turns below) syms.now) }
     ensures shorter { IfOk result (λ x. length x.1.now + 1 ≤ length syms.now) }
-    ensures some { IfOk result (λ x. 1 ≤ x.0.height) }
+    ensures low { IfOk result (λ x. 1 ≤ x.0.height) }
     ensures high { IfOk result (λ x. x.0.height ≤ below + 1) }
 {
     let kind = kind_at(syms);
@@ -328,15 +393,22 @@ fn unary<'a>(alloc: Global, below: u32, syms: &'a [Sym]) -> Result<(High, &'a [S
 // The operators of the level above `n` behind an operand that begins at `first`, each with its right operand.
 #[cycle(reading)]
 #[tactic(auto, unfolding(vk_grammar::specs::Reading::operators, vk_grammar::specs::Reading::operator_step, vk_grammar::specs::Reading::right_operand))]
-fn operators<'a>(alloc: Global, below: u32, n: u32, first: Place, left: High, syms: &'a [Sym]) -> Result<(High, &'a [Sym]), ReadFail>
+fn operators<'a>(
+    alloc: Global,
+    below: u32,
+    n: u32,
+    first: Place,
+    left: High,
+    syms: &'a [Sym],
+) -> Result<(High, &'a [Sym]), ReadFail>
     requires below { below < 64 }
     requires level { n < 10 }
-    requires some { 1 ≤ left.height }
+    requires low { 1 ≤ left.height }
     requires high { left.height ≤ below + 1 }
     ensures value { (turns m : ℕ) → length syms.now < turns → below < m + left.height
         → Reads result (spec.operators below turns (spec.expression turns below) (suc m) n first.line first.token (seen left) syms.now) }
     ensures shorter { IfOk result (λ x. length x.1.now ≤ length syms.now) }
-    ensures some { IfOk result (λ x. 1 ≤ x.0.height) }
+    ensures low { IfOk result (λ x. 1 ≤ x.0.height) }
     ensures high { IfOk result (λ x. x.0.height ≤ below + 1) }
 {
     let Some(op) = operator_at(n + 1, kind_at(syms)) else {
@@ -354,12 +426,17 @@ fn operators<'a>(alloc: Global, below: u32, n: u32, first: Place, left: High, sy
 // An expression of the binary level `n`: 0 for `unary`, 10 for `||`.
 #[cycle(reading)]
 #[tactic(auto, unfolding(vk_grammar::specs::Reading::levels))]
-fn level<'a>(alloc: Global, below: u32, n: u32, syms: &'a [Sym]) -> Result<(High, &'a [Sym]), ReadFail>
+fn level<'a>(
+    alloc: Global,
+    below: u32,
+    n: u32,
+    syms: &'a [Sym],
+) -> Result<(High, &'a [Sym]), ReadFail>
     requires below { below < 64 }
     requires level { n ≤ 10 }
     ensures value { (turns : ℕ) → length syms.now < turns → Reads result (spec.levels below turns (spec.expression turns below) n syms.now) }
     ensures shorter { IfOk result (λ x. length x.1.now + 1 ≤ length syms.now) }
-    ensures some { IfOk result (λ x. 1 ≤ x.0.height) }
+    ensures low { IfOk result (λ x. 1 ≤ x.0.height) }
     ensures high { IfOk result (λ x. x.0.height ≤ below + 1) }
 {
     if n == 0 {
@@ -373,13 +450,19 @@ fn level<'a>(alloc: Global, below: u32, n: u32, syms: &'a [Sym]) -> Result<(High
 // The `?` behind a condition that begins at `first`, and both branches.
 #[cycle(reading)]
 #[tactic(auto, unfolding(vk_grammar::specs::Reading::branches))]
-fn branches<'a>(alloc: Global, below: u32, first: Place, condition: High, syms: &'a [Sym]) -> Result<(High, &'a [Sym]), ReadFail>
+fn branches<'a>(
+    alloc: Global,
+    below: u32,
+    first: Place,
+    condition: High,
+    syms: &'a [Sym],
+) -> Result<(High, &'a [Sym]), ReadFail>
     requires below { below < 64 }
     requires high { condition.height ≤ below }
     ensures value { (turns : ℕ) → length syms.now < turns
         → Reads result (spec.branches below turns (spec.expression turns below) first.line first.token (seen condition) syms.now) }
     ensures shorter { IfOk result (λ x. length x.1.now ≤ length syms.now) }
-    ensures some { IfOk result (λ x. 1 ≤ x.0.height) }
+    ensures low { IfOk result (λ x. 1 ≤ x.0.height) }
     ensures high { IfOk result (λ x. x.0.height ≤ below + 1) }
 {
     let (_, rest) = take(syms)?;
@@ -392,14 +475,20 @@ fn branches<'a>(alloc: Global, below: u32, first: Place, condition: High, syms: 
 // Behind a condition that begins at `first`: its branches, or nothing.
 #[cycle(reading)]
 #[tactic(auto, unfolding(vk_grammar::specs::Reading::choices))]
-fn choices<'a>(alloc: Global, below: u32, first: Place, condition: High, syms: &'a [Sym]) -> Result<(High, &'a [Sym]), ReadFail>
+fn choices<'a>(
+    alloc: Global,
+    below: u32,
+    first: Place,
+    condition: High,
+    syms: &'a [Sym],
+) -> Result<(High, &'a [Sym]), ReadFail>
     requires below { below < 64 }
-    requires some { 1 ≤ condition.height }
+    requires low { 1 ≤ condition.height }
     requires high { condition.height ≤ below + 1 }
     ensures value { (turns : ℕ) → length syms.now < turns
         → Reads result (spec.choices below turns (spec.expression turns below) first.line first.token (seen condition) syms.now) }
     ensures shorter { IfOk result (λ x. length x.1.now ≤ length syms.now) }
-    ensures some { IfOk result (λ x. 1 ≤ x.0.height) }
+    ensures low { IfOk result (λ x. 1 ≤ x.0.height) }
     ensures high { IfOk result (λ x. x.0.height ≤ below + 1) }
 {
     if !is_sign(Mark::Question, kind_at(syms)) {
@@ -414,11 +503,15 @@ fn choices<'a>(alloc: Global, below: u32, first: Place, condition: High, syms: &
 // A whole `cond`.
 #[cycle(reading)]
 #[tactic(auto, unfolding(vk_grammar::specs::Reading::conditional))]
-fn conditional<'a>(alloc: Global, below: u32, syms: &'a [Sym]) -> Result<(High, &'a [Sym]), ReadFail>
+fn conditional<'a>(
+    alloc: Global,
+    below: u32,
+    syms: &'a [Sym],
+) -> Result<(High, &'a [Sym]), ReadFail>
     requires { below < 64 }
     ensures value { (turns : ℕ) → length syms.now < turns → Reads result (spec.conditional below turns (spec.expression turns below) syms.now) }
     ensures shorter { IfOk result (λ x. length x.1.now + 1 ≤ length syms.now) }
-    ensures some { IfOk result (λ x. 1 ≤ x.0.height) }
+    ensures low { IfOk result (λ x. 1 ≤ x.0.height) }
     ensures high { IfOk result (λ x. x.0.height ≤ below + 1) }
 {
     let first = place_at(syms);
@@ -428,15 +521,22 @@ fn conditional<'a>(alloc: Global, below: u32, syms: &'a [Sym]) -> Result<(High, 
 
 // What goes on behind an operand of level 0 that begins at `first`, up to the operators of level `n`.
 #[tactic(auto, unfolding(vk_grammar::specs::Reading::climb))]
-fn climb<'a>(alloc: Global, below: u32, n: u32, first: Place, left: High, syms: &'a [Sym]) -> Result<(High, &'a [Sym]), ReadFail>
+fn climb<'a>(
+    alloc: Global,
+    below: u32,
+    n: u32,
+    first: Place,
+    left: High,
+    syms: &'a [Sym],
+) -> Result<(High, &'a [Sym]), ReadFail>
     requires below { below < 64 }
     requires level { n ≤ 10 }
-    requires some { 1 ≤ left.height }
+    requires low { 1 ≤ left.height }
     requires high { left.height ≤ below + 1 }
     ensures value { (turns : ℕ) → length syms.now < turns
         → Reads result (spec.climb below turns (spec.expression turns below) n first.line first.token (seen left) syms.now) }
     ensures shorter { IfOk result (λ x. length x.1.now ≤ length syms.now) }
-    ensures some { IfOk result (λ x. 1 ≤ x.0.height) }
+    ensures low { IfOk result (λ x. 1 ≤ x.0.height) }
     ensures high { IfOk result (λ x. x.0.height ≤ below + 1) }
 {
     if n == 0 {
@@ -448,14 +548,20 @@ fn climb<'a>(alloc: Global, below: u32, n: u32, first: Place, left: High, syms: 
 
 /// What goes on behind an operand of level 0 that begins at `first`: operators of every level, and `?`.
 #[tactic(auto, unfolding(vk_grammar::specs::Reading::onwards))]
-pub(crate) fn onwards<'a>(alloc: Global, below: u32, first: Place, left: High, syms: &'a [Sym]) -> Result<(High, &'a [Sym]), ReadFail>
+pub(crate) fn onwards<'a>(
+    alloc: Global,
+    below: u32,
+    first: Place,
+    left: High,
+    syms: &'a [Sym],
+) -> Result<(High, &'a [Sym]), ReadFail>
     requires below { below < 64 }
-    requires some { 1 ≤ left.height }
+    requires low { 1 ≤ left.height }
     requires high { left.height ≤ below + 1 }
     ensures value { (turns : ℕ) → length syms.now < turns
         → Reads result (spec.onwards below turns (spec.expression turns below) first.line first.token (seen left) syms.now) }
     ensures shorter { IfOk result (λ x. length x.1.now ≤ length syms.now) }
-    ensures some { IfOk result (λ x. 1 ≤ x.0.height) }
+    ensures low { IfOk result (λ x. 1 ≤ x.0.height) }
     ensures high { IfOk result (λ x. x.0.height ≤ below + 1) }
 {
     let (condition, rest) = climb(alloc, below, 10, first, left, syms)?;

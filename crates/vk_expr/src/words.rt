@@ -91,9 +91,7 @@ fn is_any_word(kind: SymKind) -> bool
 fn times_in(word: TypeWord, syms: &[Sym]) -> usize
     ensures { result ≡ times word (words_of syms.now) }
 {
-    syms.iter()
-        .filter(|sym| is_word(word, sym.kind))
-        .count()
+    syms.iter().filter(|sym| is_word(word, sym.kind)).count()
 }
 
 // How often a word stands in a row of the table.

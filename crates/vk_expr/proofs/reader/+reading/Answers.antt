@@ -27,8 +27,8 @@ some_arguments-arguments-preserved t c = record {
   so_far = λ turns l.
       let comma : is_sign mark.Comma (head c.arguments.rest.now) ≡ true = search rules in
       rw (c.in_ok-push-2.ensures.items, c.max-height.ensures)
-          (one_turn c.args.below turns c.arguments.list.items c.arguments.height c.in-Ok.read.0.expr c.in-Ok.read.0.height c.arguments.rest.now c.in-Ok.read.1.now _ comma
-              (c.in-Ok.ensures.value turns (omega (arith, c.arguments.invariant.shorter))) c.in-Ok.ensures.shorter (c.arguments.invariant.so_far turns l));
+      (one_turn c.args.below turns c.arguments.list.items c.arguments.height c.in-Ok.read.0.expr c.in-Ok.read.0.height c.arguments.rest.now c.in-Ok.read.1.now _ comma
+      (c.in-Ok.ensures.value turns (omega (arith, c.arguments.invariant.shorter))) c.in-Ok.ensures.shorter (c.arguments.invariant.so_far turns l));
   shorter = search rules;
   high = search rules;
 }
@@ -44,16 +44,16 @@ operators-returns-clause-value t c =
     λ turns m l many.
     let here : operator_at (c.args.n + 1) (head c.args.syms.now) ≡ Some c.in-Some.op = search rules in
     operator_read c.args.below turns c.args.first.line c.args.first.token c.args.syms.now c.in_ok-rest.rest.now c.in_ok-right.rest.now c.in_ok-rest.field-0-0 (seen c.args.left) (seen c.in_ok-right.right)
-        (Reads c.operators.result) c.args.n c.in-Some.op (seen c.in_ok-whole.whole) here c.if-left-below.false c.in_ok-rest.ensures.value
-        (c.in_ok-right.ensures.value turns (omega (arith, c.in_ok-rest.ensures.shorter))) c.in_ok-whole.ensures
-        (λ j i. c.operators.ensures.value turns j (omega (arith, c.in_ok-rest.ensures.shorter, c.in_ok-right.ensures.shorter)) i) m many
+    (Reads c.operators.result) c.args.n c.in-Some.op (seen c.in_ok-whole.whole) here c.if-left-below.false c.in_ok-rest.ensures.value
+    (c.in_ok-right.ensures.value turns (omega (arith, c.in_ok-rest.ensures.shorter))) c.in_ok-whole.ensures
+    (λ j i. c.operators.ensures.value turns j (omega (arith, c.in_ok-rest.ensures.shorter, c.in_ok-right.ensures.shorter)) i) m many
 
 pub subscripts-returns-clause-value : goal.subscripts-returns-clause-value
 subscripts-returns-clause-value t c =
     λ turns m l many.
     let here : is_sign mark.OpenBracket (head c.args.syms.now) ≡ true = search rules in
     subscript_read c.args.below turns c.args.first.line c.args.first.token c.args.syms.now c.in_ok-rest.rest.now c.in_ok-subscript.rest.now c.in_ok-rest-2.rest.now c.in_ok-rest.field-0-0 c.in_ok-rest-2.field-0-0
-        (seen c.args.base) (seen c.in_ok-subscript.subscript)
-        (Reads c.subscripts.result) (seen c.in_ok-whole.whole) here c.if-base-below.false c.in_ok-rest.ensures.value
-        (c.in_ok-subscript.ensures.value turns (omega (arith, c.in_ok-rest.ensures.shorter))) c.in_ok-rest-2.ensures.value c.in_ok-whole.ensures
-        (λ j i. c.subscripts.ensures.value turns j (omega (arith, c.in_ok-rest.ensures.shorter, c.in_ok-subscript.ensures.shorter, c.in_ok-rest-2.ensures.shorter)) i) m many
+    (seen c.args.base) (seen c.in_ok-subscript.subscript)
+    (Reads c.subscripts.result) (seen c.in_ok-whole.whole) here c.if-base-below.false c.in_ok-rest.ensures.value
+    (c.in_ok-subscript.ensures.value turns (omega (arith, c.in_ok-rest.ensures.shorter))) c.in_ok-rest-2.ensures.value c.in_ok-whole.ensures
+    (λ j i. c.subscripts.ensures.value turns j (omega (arith, c.in_ok-rest.ensures.shorter, c.in_ok-subscript.ensures.shorter, c.in_ok-rest-2.ensures.shorter)) i) m many
