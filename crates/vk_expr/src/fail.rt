@@ -4,6 +4,7 @@ ghost use Rattle.std.specs.Prelude.{◌≡◌};
 ghost use Rattle.vk_expr.specs.declared.fail.ReadFail.TheVariants.{Memory as MemoryFail};
 
 use std::alloc::{AllocError, AllocFailed};
+use vk_grammar::Sym;
 
 /// Why no expression was read. A place is told as the number of tokens that are left from it on: 0 is the end.
 #[derive(Clone, Copy, PartialEq, Eq, Debug)]
@@ -15,6 +16,9 @@ pub enum ReadFail {
     /// An allocation failed.
     Memory,
 }
+
+/// What was read at the front of tokens, and the tokens behind it.
+pub type Read<'a, T> = Result<(T, &'a [Sym]), ReadFail>;
 
 impl From<AllocError> for ReadFail {
     ghost from_gives = { λ _ fail. fail ≡ MemoryFail };

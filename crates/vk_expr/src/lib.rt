@@ -9,7 +9,7 @@ pub mod signs;
 pub mod steps;
 pub mod words;
 
-pub use fail::ReadFail;
+pub use fail::{Read, ReadFail};
 pub use nodes::{High, Place};
 pub use read::{read_expr, read_full, read_onwards, read_unary};
 

@@ -7,7 +7,7 @@ ghost use Rattle.vk_grammar.specs.Reading as spec;
 ghost use Rattle.vk_grammar.specs.Texts.{IsPlace, IsDeepPlace};
 ghost use Rattle.vk_expr.specs.Answers.{seen, Gives, Reads};
 
-use crate::fail::ReadFail;
+use crate::fail::{Read, ReadFail};
 use crate::nodes::{High, Place};
 use crate::reader::{expression, onwards, operand};
 use std::alloc::Global;
@@ -17,7 +17,7 @@ use vk_grammar::Sym;
 const MOST_LEVELS: u32 = 64;
 
 /// A `cond` of at most 64 levels at the front of the tokens, and the tokens behind it: as far as an expression goes (C17 6.5).
-pub fn read_full<'a>(alloc: Global, syms: &'a [Sym]) -> Result<(High, &'a [Sym]), ReadFail>
+pub fn read_full(alloc: Global, syms: &[Sym]) -> Read<'_, High>
     ensures value { (turns : ℕ) → length syms.now < turns → Reads result (spec.expression turns 64 full syms.now) }
     ensures shorter { IfOk result (λ x. length x.1.now + 1 ≤ length syms.now) }
     ensures low { IfOk result (λ x. 1 ≤ x.0.height) }
@@ -27,7 +27,7 @@ pub fn read_full<'a>(alloc: Global, syms: &'a [Sym]) -> Result<(High, &'a [Sym])
 }
 
 /// A `unary` of at most 64 levels at the front of the tokens (C17 6.5.3, 6.5.4), and the tokens behind it.
-pub fn read_unary<'a>(alloc: Global, syms: &'a [Sym]) -> Result<(High, &'a [Sym]), ReadFail>
+pub fn read_unary(alloc: Global, syms: &[Sym]) -> Read<'_, High>
     ensures value { (turns : ℕ) → length syms.now < turns → Reads result (spec.expression turns 64 (level 0) syms.now) }
     ensures shorter { IfOk result (λ x. length x.1.now + 1 ≤ length syms.now) }
     ensures low { IfOk result (λ x. 1 ≤ x.0.height) }
@@ -37,12 +37,7 @@ pub fn read_unary<'a>(alloc: Global, syms: &'a [Sym]) -> Result<(High, &'a [Sym]
 }
 
 /// What goes on behind a `unary` that begins at `first`, to a whole `cond` of at most 64 levels, and the tokens behind it.
-pub fn read_onwards<'a>(
-    alloc: Global,
-    first: Place,
-    left: High,
-    syms: &'a [Sym],
-) -> Result<(High, &'a [Sym]), ReadFail>
+pub fn read_onwards(alloc: Global, first: Place, left: High, syms: &[Sym]) -> Read<'_, High>
     requires low { 1 ≤ left.height }
     requires high { left.height ≤ 64 }
     ensures value { (turns : ℕ) → length syms.now < turns

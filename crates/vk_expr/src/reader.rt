@@ -9,7 +9,7 @@ ghost use Rattle.vk_grammar.specs.Grammar.{full, level as at_level};
 ghost use Rattle.vk_grammar.specs.Reading as spec;
 ghost use Rattle.vk_expr.specs.Answers.{seen, Gives, Reads, summed};
 
-use crate::fail::ReadFail;
+use crate::fail::{Read, ReadFail};
 use crate::nodes::{
     Arguments, High, Place, binary_node, call_node, cast_node, choice_node, index_node, int_node,
     name_node, prefix_node,
@@ -26,7 +26,7 @@ use vk_tokens::Mark;
 
 // Where no level may stand: too deep where an expression begins.
 #[tactic(auto, unfolding(vk_grammar::specs::Reading::nothing))]
-fn nothing<'a>(syms: &'a [Sym]) -> Result<(High, &'a [Sym]), ReadFail>
+fn nothing(syms: &[Sym]) -> Read<'_, High>
     ensures value { Reads result (spec.nothing syms.now) }
     ensures none { IfOk result (λ _. ⊥) }
 {
@@ -40,11 +40,7 @@ fn nothing<'a>(syms: &'a [Sym]) -> Result<(High, &'a [Sym]), ReadFail>
 /// A whole `cond`, of a height of at most `below`.
 #[cycle(reading)]
 #[tactic(auto, unfolding(vk_grammar::specs::Reading::expression))]
-pub(crate) fn expression<'a>(
-    alloc: Global,
-    below: u32,
-    syms: &'a [Sym],
-) -> Result<(High, &'a [Sym]), ReadFail>
+pub(crate) fn expression(alloc: Global, below: u32, syms: &[Sym]) -> Read<'_, High>
     requires { below ≤ 64 }
     ensures value { (turns : ℕ) → length syms.now < turns → Reads result (spec.expression turns below full syms.now) }
     ensures shorter { IfOk result (λ x. length x.1.now + 1 ≤ length syms.now) }
@@ -61,12 +57,7 @@ pub(crate) fn expression<'a>(
 /// An operand of an operator of the level above, of a height of at most `below`.
 #[cycle(reading)]
 #[tactic(auto, unfolding(vk_grammar::specs::Reading::expression))]
-pub(crate) fn operand<'a>(
-    alloc: Global,
-    below: u32,
-    n: u32,
-    syms: &'a [Sym],
-) -> Result<(High, &'a [Sym]), ReadFail>
+pub(crate) fn operand(alloc: Global, below: u32, n: u32, syms: &[Sym]) -> Read<'_, High>
     requires below { below ≤ 64 }
     requires level { n ≤ 10 }
     ensures value { (turns : ℕ) → length syms.now < turns → Reads result (spec.expression turns below (at_level n) syms.now) }
@@ -84,11 +75,7 @@ pub(crate) fn operand<'a>(
 // The arguments before a `)`.
 #[cycle(reading)]
 #[tactic(auto, unfolding(vk_grammar::specs::Reading::arguments))]
-fn arguments<'a>(
-    alloc: Global,
-    below: u32,
-    syms: &'a [Sym],
-) -> Result<(Arguments, &'a [Sym]), ReadFail>
+fn arguments(alloc: Global, below: u32, syms: &[Sym]) -> Read<'_, Arguments>
     requires { below < 64 }
     ensures value { (turns : ℕ) → length syms.now < turns
         → Gives (λ x. ((exprs_of x.0.list.items, x.0.height), x.1.now)) result (summed (spec.arguments below turns (spec.expression turns below)) syms.now) }
@@ -107,11 +94,7 @@ fn arguments<'a>(
 
 #[cycle(reading)]
 #[tactic(auto, unfolding(vk_grammar::specs::Reading::some_arguments))]
-fn some_arguments<'a>(
-    alloc: Global,
-    below: u32,
-    syms: &'a [Sym],
-) -> Result<(Arguments, &'a [Sym]), ReadFail>
+fn some_arguments(alloc: Global, below: u32, syms: &[Sym]) -> Read<'_, Arguments>
     requires { below < 64 }
     ensures value { (turns : ℕ) → length syms.now < turns
         → Gives (λ x. ((exprs_of x.0.list.items, x.0.height), x.1.now)) result (summed (spec.some_arguments below turns (spec.expression turns below)) syms.now) }
@@ -137,11 +120,7 @@ fn some_arguments<'a>(
 // An argument behind a comma.
 #[cycle(reading)]
 #[tactic(auto, unfolding(vk_grammar::specs::Reading::later_argument))]
-fn later_argument<'a>(
-    alloc: Global,
-    below: u32,
-    syms: &'a [Sym],
-) -> Result<(High, &'a [Sym]), ReadFail>
+fn later_argument(alloc: Global, below: u32, syms: &[Sym]) -> Read<'_, High>
     requires { below < 64 }
     ensures value { (turns : ℕ) → length syms.now < turns → Reads result (spec.later_argument below turns (spec.expression turns below) syms.now) }
     ensures shorter { IfOk result (λ x. length x.1.now + 1 ≤ length syms.now) }
@@ -154,13 +133,7 @@ fn later_argument<'a>(
 // A call, behind its name, at the `(`.
 #[cycle(reading)]
 #[tactic(auto, unfolding(vk_grammar::specs::Reading::call_of))]
-fn call_of<'a>(
-    alloc: Global,
-    below: u32,
-    first: Sym,
-    id: NameId,
-    syms: &'a [Sym],
-) -> Result<(High, &'a [Sym]), ReadFail>
+fn call_of(alloc: Global, below: u32, first: Sym, id: NameId, syms: &[Sym]) -> Read<'_, High>
     requires { below < 64 }
     ensures value { (turns : ℕ) → length syms.now < turns → Reads result (spec.call_of below turns (spec.expression turns below) first.line first.at id syms.now) }
     ensures shorter { IfOk result (λ x. length x.1.now ≤ length syms.now) }
@@ -176,13 +149,7 @@ fn call_of<'a>(
 // Behind a name: a call, or the name alone.
 #[cycle(reading)]
 #[tactic(auto, unfolding(vk_grammar::specs::Reading::named))]
-fn named<'a>(
-    alloc: Global,
-    below: u32,
-    first: Sym,
-    id: NameId,
-    syms: &'a [Sym],
-) -> Result<(High, &'a [Sym]), ReadFail>
+fn named(alloc: Global, below: u32, first: Sym, id: NameId, syms: &[Sym]) -> Read<'_, High>
     requires { below < 64 }
     ensures value { (turns : ℕ) → length syms.now < turns → Reads result (spec.named below turns (spec.expression turns below) id first syms.now) }
     ensures shorter { IfOk result (λ x. length x.1.now ≤ length syms.now) }
@@ -199,7 +166,7 @@ fn named<'a>(
 // A literal, a name or a call.
 #[cycle(reading)]
 #[tactic(auto, unfolding(vk_grammar::specs::Reading::atom))]
-fn atom<'a>(alloc: Global, below: u32, syms: &'a [Sym]) -> Result<(High, &'a [Sym]), ReadFail>
+fn atom(alloc: Global, below: u32, syms: &[Sym]) -> Read<'_, High>
     requires { below < 64 }
     ensures value { (turns : ℕ) → length syms.now < turns → Reads result (spec.atom below turns (spec.expression turns below) syms.now) }
     ensures shorter { IfOk result (λ x. length x.1.now + 1 ≤ length syms.now) }
@@ -222,13 +189,7 @@ fn atom<'a>(alloc: Global, below: u32, syms: &'a [Sym]) -> Result<(High, &'a [Sy
 // The subscripts behind an operand that begins at `first`.
 #[cycle(reading)]
 #[tactic(auto, unfolding(vk_grammar::specs::Reading::subscripts, vk_grammar::specs::Reading::subscript_step, vk_grammar::specs::Reading::subscript))]
-fn subscripts<'a>(
-    alloc: Global,
-    below: u32,
-    first: Place,
-    base: High,
-    syms: &'a [Sym],
-) -> Result<(High, &'a [Sym]), ReadFail>
+fn subscripts(alloc: Global, below: u32, first: Place, base: High, syms: &[Sym]) -> Read<'_, High>
     requires below { below < 64 }
     requires low { 1 ≤ base.height }
     requires high { base.height ≤ below + 1 }
@@ -254,7 +215,7 @@ fn subscripts<'a>(
 // A primary expression other than one in parentheses, and its subscripts.
 #[cycle(reading)]
 #[tactic(auto, unfolding(vk_grammar::specs::Reading::post))]
-fn post<'a>(alloc: Global, below: u32, syms: &'a [Sym]) -> Result<(High, &'a [Sym]), ReadFail>
+fn post(alloc: Global, below: u32, syms: &[Sym]) -> Read<'_, High>
     requires { below < 64 }
     ensures value { (turns : ℕ) → length syms.now < turns → Reads result (spec.post below turns (spec.expression turns below) syms.now) }
     ensures shorter { IfOk result (λ x. length x.1.now + 1 ≤ length syms.now) }
@@ -269,7 +230,7 @@ fn post<'a>(alloc: Global, below: u32, syms: &'a [Sym]) -> Result<(High, &'a [Sy
 // An expression in parentheses, behind the `(`.
 #[cycle(reading)]
 #[tactic(auto, unfolding(vk_grammar::specs::Reading::group))]
-fn group<'a>(alloc: Global, below: u32, syms: &'a [Sym]) -> Result<(High, &'a [Sym]), ReadFail>
+fn group(alloc: Global, below: u32, syms: &[Sym]) -> Read<'_, High>
     requires { below < 64 }
     ensures value { (turns : ℕ) → length syms.now < turns → Reads result (spec.group below turns (spec.expression turns below) syms.now) }
     ensures shorter { IfOk result (λ x. length x.1.now ≤ length syms.now) }
@@ -290,12 +251,7 @@ fn group<'a>(alloc: Global, below: u32, syms: &'a [Sym]) -> Result<(High, &'a [S
 // A cast, behind its `(`, which is `first`.
 #[cycle(reading)]
 #[tactic(auto, unfolding(vk_grammar::specs::Reading::cast_of))]
-fn cast_of<'a>(
-    alloc: Global,
-    below: u32,
-    first: Sym,
-    syms: &'a [Sym],
-) -> Result<(High, &'a [Sym]), ReadFail>
+fn cast_of(alloc: Global, below: u32, first: Sym, syms: &[Sym]) -> Read<'_, High>
     requires { below < 64 }
     ensures value { (turns : ℕ) → length syms.now < turns → Reads result (spec.cast_of below turns (spec.expression turns below) first.line first.at syms.now) }
     ensures shorter { IfOk result (λ x. length x.1.now ≤ length syms.now) }
@@ -304,19 +260,14 @@ fn cast_of<'a>(
 {
     let (words, rest) = type_words(syms)?;
     let (_, rest) = expect(Mark::CloseParen, rest)?;
-    let (inner, rest) = operand(alloc, below, 0, rest)?;
-    Ok((cast_node(alloc, first, type_in(words), inner)?, rest))
+    let (value, rest) = operand(alloc, below, 0, rest)?;
+    Ok((cast_node(alloc, first, type_in(words), value)?, rest))
 }
 
 // Behind a `(`, which is `first`: a cast, or an expression in parentheses and its subscripts.
 #[cycle(reading)]
 #[tactic(auto, unfolding(vk_grammar::specs::Reading::behind_paren))]
-fn behind_paren<'a>(
-    alloc: Global,
-    below: u32,
-    first: Sym,
-    syms: &'a [Sym],
-) -> Result<(High, &'a [Sym]), ReadFail>
+fn behind_paren(alloc: Global, below: u32, first: Sym, syms: &[Sym]) -> Read<'_, High>
     requires { below < 64 }
     ensures value { (turns : ℕ) → length syms.now < turns → Reads result (spec.behind_paren below turns (spec.expression turns below) first syms.now) }
     ensures shorter { IfOk result (λ x. length x.1.now ≤ length syms.now) }
@@ -333,7 +284,7 @@ fn behind_paren<'a>(
 // At a `(`.
 #[cycle(reading)]
 #[tactic(auto, unfolding(vk_grammar::specs::Reading::paren))]
-fn paren<'a>(alloc: Global, below: u32, syms: &'a [Sym]) -> Result<(High, &'a [Sym]), ReadFail>
+fn paren(alloc: Global, below: u32, syms: &[Sym]) -> Read<'_, High>
     requires { below < 64 }
     ensures value { (turns : ℕ) → length syms.now < turns → Reads result (spec.paren below turns (spec.expression turns below) syms.now) }
     ensures shorter { IfOk result (λ x. length x.1.now + 1 ≤ length syms.now) }
@@ -350,12 +301,7 @@ fn paren<'a>(alloc: Global, below: u32, syms: &'a [Sym]) -> Result<(High, &'a [S
 // At a sign before an operand.
 #[cycle(reading)]
 #[tactic(auto, unfolding(vk_grammar::specs::Reading::prefix_sign, vk_grammar::specs::Reading::prefix_operand))]
-fn prefix_sign<'a>(
-    alloc: Global,
-    below: u32,
-    prefix: Prefix,
-    syms: &'a [Sym],
-) -> Result<(High, &'a [Sym]), ReadFail>
+fn prefix_sign(alloc: Global, below: u32, prefix: Prefix, syms: &[Sym]) -> Read<'_, High>
     requires { below < 64 }
     ensures value { (turns : ℕ) → length syms.now < turns → Reads result (spec.prefix_sign below turns (spec.expression turns below) prefix syms.now) }
     ensures shorter { IfOk result (λ x. length x.1.now + 1 ≤ length syms.now) }
@@ -373,7 +319,7 @@ fn prefix_sign<'a>(
 // Signs before an operand, casts, and what may stand behind them.
 #[cycle(reading)]
 #[tactic(auto, unfolding(vk_grammar::specs::Reading::unaries))]
-fn unary<'a>(alloc: Global, below: u32, syms: &'a [Sym]) -> Result<(High, &'a [Sym]), ReadFail>
+fn unary(alloc: Global, below: u32, syms: &[Sym]) -> Read<'_, High>
     requires { below < 64 }
     ensures value { (turns : ℕ) → length syms.now < turns → Reads result (spec.unaries below turns (spec.expression turns below) syms.now) }
     ensures shorter { IfOk result (λ x. length x.1.now + 1 ≤ length syms.now) }
@@ -393,14 +339,14 @@ fn unary<'a>(alloc: Global, below: u32, syms: &'a [Sym]) -> Result<(High, &'a [S
 // The operators of the level above `n` behind an operand that begins at `first`, each with its right operand.
 #[cycle(reading)]
 #[tactic(auto, unfolding(vk_grammar::specs::Reading::operators, vk_grammar::specs::Reading::operator_step, vk_grammar::specs::Reading::right_operand))]
-fn operators<'a>(
+fn operators(
     alloc: Global,
     below: u32,
     n: u32,
     first: Place,
     left: High,
-    syms: &'a [Sym],
-) -> Result<(High, &'a [Sym]), ReadFail>
+    syms: &[Sym],
+) -> Read<'_, High>
     requires below { below < 64 }
     requires level { n < 10 }
     requires low { 1 ≤ left.height }
@@ -426,12 +372,7 @@ fn operators<'a>(
 // An expression of the binary level `n`: 0 for `unary`, 10 for `||`.
 #[cycle(reading)]
 #[tactic(auto, unfolding(vk_grammar::specs::Reading::levels))]
-fn level<'a>(
-    alloc: Global,
-    below: u32,
-    n: u32,
-    syms: &'a [Sym],
-) -> Result<(High, &'a [Sym]), ReadFail>
+fn level(alloc: Global, below: u32, n: u32, syms: &[Sym]) -> Read<'_, High>
     requires below { below < 64 }
     requires level { n ≤ 10 }
     ensures value { (turns : ℕ) → length syms.now < turns → Reads result (spec.levels below turns (spec.expression turns below) n syms.now) }
@@ -450,13 +391,13 @@ fn level<'a>(
 // The `?` behind a condition that begins at `first`, and both branches.
 #[cycle(reading)]
 #[tactic(auto, unfolding(vk_grammar::specs::Reading::branches))]
-fn branches<'a>(
+fn branches(
     alloc: Global,
     below: u32,
     first: Place,
     condition: High,
-    syms: &'a [Sym],
-) -> Result<(High, &'a [Sym]), ReadFail>
+    syms: &[Sym],
+) -> Read<'_, High>
     requires below { below < 64 }
     requires high { condition.height ≤ below }
     ensures value { (turns : ℕ) → length syms.now < turns
@@ -475,13 +416,7 @@ fn branches<'a>(
 // Behind a condition that begins at `first`: its branches, or nothing.
 #[cycle(reading)]
 #[tactic(auto, unfolding(vk_grammar::specs::Reading::choices))]
-fn choices<'a>(
-    alloc: Global,
-    below: u32,
-    first: Place,
-    condition: High,
-    syms: &'a [Sym],
-) -> Result<(High, &'a [Sym]), ReadFail>
+fn choices(alloc: Global, below: u32, first: Place, condition: High, syms: &[Sym]) -> Read<'_, High>
     requires below { below < 64 }
     requires low { 1 ≤ condition.height }
     requires high { condition.height ≤ below + 1 }
@@ -503,11 +438,7 @@ fn choices<'a>(
 // A whole `cond`.
 #[cycle(reading)]
 #[tactic(auto, unfolding(vk_grammar::specs::Reading::conditional))]
-fn conditional<'a>(
-    alloc: Global,
-    below: u32,
-    syms: &'a [Sym],
-) -> Result<(High, &'a [Sym]), ReadFail>
+fn conditional(alloc: Global, below: u32, syms: &[Sym]) -> Read<'_, High>
     requires { below < 64 }
     ensures value { (turns : ℕ) → length syms.now < turns → Reads result (spec.conditional below turns (spec.expression turns below) syms.now) }
     ensures shorter { IfOk result (λ x. length x.1.now + 1 ≤ length syms.now) }
@@ -521,14 +452,14 @@ fn conditional<'a>(
 
 // What goes on behind an operand of level 0 that begins at `first`, up to the operators of level `n`.
 #[tactic(auto, unfolding(vk_grammar::specs::Reading::climb))]
-fn climb<'a>(
+fn climb(
     alloc: Global,
     below: u32,
     n: u32,
     first: Place,
     left: High,
-    syms: &'a [Sym],
-) -> Result<(High, &'a [Sym]), ReadFail>
+    syms: &[Sym],
+) -> Read<'_, High>
     requires below { below < 64 }
     requires level { n ≤ 10 }
     requires low { 1 ≤ left.height }
@@ -542,19 +473,19 @@ fn climb<'a>(
     if n == 0 {
         return Ok((left, syms));
     }
-    let (left, rest) = climb(alloc, below, n - 1, first, left, syms)?;
-    operators(alloc, below, n - 1, first, left, rest)
+    let (lower, rest) = climb(alloc, below, n - 1, first, left, syms)?;
+    operators(alloc, below, n - 1, first, lower, rest)
 }
 
 /// What goes on behind an operand of level 0 that begins at `first`: operators of every level, and `?`.
 #[tactic(auto, unfolding(vk_grammar::specs::Reading::onwards))]
-pub(crate) fn onwards<'a>(
+pub(crate) fn onwards(
     alloc: Global,
     below: u32,
     first: Place,
     left: High,
-    syms: &'a [Sym],
-) -> Result<(High, &'a [Sym]), ReadFail>
+    syms: &[Sym],
+) -> Read<'_, High>
     requires below { below < 64 }
     requires low { 1 ≤ left.height }
     requires high { left.height ≤ below + 1 }

@@ -63,9 +63,9 @@ static TEXTS: [(&str, &str); 78] = [
     ("( a ) ? b : c", "1(2a ? 5b : 7c)"),
     // Calls and subscripts.
     ("f ( )", "1f()"),
-    ("f ( a )", "1f(3a)"),
-    ("f ( a + b , ( c ) , d )", "1f(3(3a Add 5b), 8c, 11d)"),
-    ("f ( g ( ) ) [ 2 ]", "1[1f(3g()) 8#2]"),
+    ("f ( a )", "1f(3a,)"),
+    ("f ( a + b , ( c ) , d )", "1f(3(3a Add 5b),8c,11d,)"),
+    ("f ( g ( ) ) [ 2 ]", "1[1f(3g(),) 8#2]"),
     ("a [ b ] [ c ]", "1[1[1a 3b] 6c]"),
     // No expression, with the number of tokens from the place on.
     ("", "C5 0"),
@@ -166,9 +166,9 @@ static KINDS: [(&str, SymKind); 38] = [
 
 // A sign or a keyword, else a literal of one digit or a name of one letter.
 fn kind_of(word: &str) -> SymKind {
-    for (text, kind) in KINDS {
-        if text == word {
-            return kind;
+    for (text, kind) in &KINDS {
+        if *text == word {
+            return *kind;
         }
     }
     match word.as_bytes() {
@@ -199,7 +199,7 @@ fn show(alloc: Global, e: &Expr) -> Result<String, AllocError> {
     match &e.kind {
         ExprKind::Int(_, value) => format!(in alloc; "{first}#{value}"),
         ExprKind::Name(id) => {
-            let letter = char::from(id.0 as u8);
+            let letter = char::from(u8::try_from(id.0).unwrap_or(b'?'));
             format!(in alloc; "{first}{letter}")
         }
         ExprKind::Index(base, subscript) => {
@@ -235,13 +235,11 @@ fn show(alloc: Global, e: &Expr) -> Result<String, AllocError> {
             format!(in alloc; "{first}({ty:?} {operand})")
         }
         ExprKind::Call(id, list) => {
-            let letter = char::from(id.0 as u8);
+            let letter = char::from(u8::try_from(id.0).unwrap_or(b'?'));
             let mut text = format!(in alloc; "{first}{letter}(")?;
-            let mut between = "";
             for argument in list {
-                text.push_str(between)?;
                 text.push_str(show(alloc, argument)?.as_str())?;
-                between = ", ";
+                text.push(',')?;
             }
             text.push(')')?;
             Ok(text)
@@ -260,13 +258,13 @@ fn fault(alloc: Global, fail: ReadFail) -> Result<String, AllocError> {
 #[test]
 fn reads_texts(rt: HostRuntime) -> Result<(), Fail> {
     let alloc = rt.alloc();
-    for (text, want) in TEXTS {
+    for (text, want) in &TEXTS {
         let syms = symbols(alloc, text)?;
         let found = match read_expr(alloc, &syms) {
             Ok(read) => show(alloc, &read.expr)?,
             Err(fail) => fault(alloc, fail)?,
         };
-        assert!(rt; found.as_str() == want, "{text}");
+        assert!(rt; found.as_str() == *want, "{text}");
     }
     Ok(())
 }
@@ -274,13 +272,13 @@ fn reads_texts(rt: HostRuntime) -> Result<(), Fail> {
 #[test]
 fn counts_levels(rt: HostRuntime) -> Result<(), Fail> {
     let alloc = rt.alloc();
-    for (open, times, middle, close, want) in TOWERS {
+    for (open, times, middle, close, want) in &TOWERS {
         let mut text = String::new(alloc);
-        for _ in 0..times {
+        for _ in 0..*times {
             text.push_str(open)?;
         }
         text.push_str(middle)?;
-        for _ in 0..times {
+        for _ in 0..*times {
             text.push_str(close)?;
         }
         let syms = symbols(alloc, text.as_str())?;
@@ -288,7 +286,7 @@ fn counts_levels(rt: HostRuntime) -> Result<(), Fail> {
             Ok(High { height, .. }) => format!(in alloc; "{height}")?,
             Err(fail) => fault(alloc, fail)?,
         };
-        assert!(rt; found.as_str() == want, "{open} {middle} {close}");
+        assert!(rt; found.as_str() == *want, "{open} {middle} {close}");
     }
     Ok(())
 }

@@ -8,7 +8,7 @@ ghost use Rattle.vk_grammar.specs.Types.{words_of, has_words, times, same_words,
 ghost use Rattle.vk_expr.specs.Answers.{Gives};
 ghost use Rattle.vk_expr.specs.TypeRows.{part_count, is_word, is_any_word, in_rows};
 
-use crate::fail::ReadFail;
+use crate::fail::{Read, ReadFail};
 use crate::signs::{is_type_part, kind_at};
 use vk_grammar::{Sym, SymKind, TypeWord};
 use vk_types::Ty;
@@ -161,7 +161,7 @@ fn part_count(syms: &[Sym]) -> usize
 
 /// The words of a type that stand here, with at least one besides `const`, and the tokens behind them.
 #[tactic(auto, unfolding(vk_grammar::specs::Reading::type_words), using(crate::proofs::Parts::parts_read, crate::proofs::Parts::any_word))]
-pub fn type_words(syms: &[Sym]) -> Result<(&[Sym], &[Sym]), ReadFail>
+pub fn type_words(syms: &[Sym]) -> Read<'_, &[Sym]>
     ensures value { (turns : ℕ) → length syms.now < turns → Gives (λ x. (x.0.now, x.1.now)) result (spec.type_words turns syms.now) }
     ensures shorter { IfOk result (λ x. length x.1.now ≤ length syms.now) }
 {
