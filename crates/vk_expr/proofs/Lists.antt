@@ -1,12 +1,12 @@
 -- Lists of arguments, read one after the other as a loop does.
-use Rattle.std.proofs.Common.{◌≡◌, ℕ, zero, suc, ◌+◌, ◌<◌, ◌≤◌, max, Bool, true, false, List, [], ◌∷◌, ◌++◌, length, Result, Ok, Err, refl, sym, ap, ◌∙◌, arith}
+use Rattle.std.proofs.Common.{◌≡◌, ℕ, zero, suc, ◌+◌, ◌<◌, ◌≤◌, max, true, false, List, [], ◌∷◌, ◌++◌, length, Result, Ok, Err, refl, sym, ap, ◌∙◌, arith}
 use Rattle.vk_ast.specs.declared.expressions.Expr.{Expr}
 use Rattle.vk_ast.specs.Tree.{Trees, no_trees, more_trees, expr_of, exprs_of}
 use Rattle.vk_tokens.specs.declared.tokens.Mark.TheVariants as mark
 use Rattle.vk_grammar.specs.declared.symbols.Sym.{Sym}
 use Rattle.vk_grammar.specs.Symbols.{head, is_sign}
 use Rattle.vk_grammar.specs.Grammar.{Tall, tall, trees_in, greatest, full}
-use Rattle.vk_grammar.specs.Parser.{Fault, Syntax, Deep, Parser, pure, then_do, many, ◌>>=◌}
+use Rattle.vk_grammar.specs.Parser.{Fault, Syntax, Deep, Parser, pure, then_do, many}
 use Rattle.vk_grammar.specs.Reading.{later_argument, some_arguments, expression}
 use Rattle.vk_expr.specs.declared.fail.ReadFail.{ReadFail}
 use Rattle.vk_expr.specs.declared.fail.ReadFail.TheVariants as fails

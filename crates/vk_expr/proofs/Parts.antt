@@ -1,13 +1,13 @@
 -- Words of types among tokens, as the code counts them.
-use Rattle.std.proofs.Common.{◌≡◌, ℕ, zero, suc, ◌+◌, ◌<◌, Bool, true, false, cond, ◌||◌, List, [], ◌∷◌, length, take, drop, count_by, Option, Some, Result, Ok, Err, refl, sym, ap, ◌∙◌, arith}
-use Rattle.std.specs.List.{prefix_len, list_any, fold}
+use Rattle.std.proofs.Common.{◌≡◌, ℕ, zero, suc, ◌+◌, ◌<◌, Bool, true, false, cond, ◌||◌, List, [], ◌∷◌, length, take, drop, count_by, Some, Result, Ok, refl, ap, ◌∙◌, arith}
+use Rattle.std.specs.List.{list_any, fold}
 use Rattle.vk_grammar.specs.declared.symbols.Sym.{Sym}
 use Rattle.vk_grammar.specs.declared.symbols.SymKind.{SymKind}
 use Rattle.vk_grammar.specs.declared.symbols.SymKind.TheVariants as kind
 use Rattle.vk_grammar.specs.declared.symbols.TypeWord.{TypeWord}
 use Rattle.vk_grammar.specs.Symbols.{is_type_part}
 use Rattle.vk_grammar.specs.Types.{words_of, word_before, has_words, times, same_word}
-use Rattle.vk_grammar.specs.Parser.{Parser, many, Fault, then_do, pick, pure, ◌>>=◌}
+use Rattle.vk_grammar.specs.Parser.{many, Fault, then_do, pick, pure, ◌>>=◌}
 use Rattle.vk_grammar.specs.Parser.{take as take_one}
 use Rattle.vk_expr.specs.TypeRows.{part_count, is_word, is_any_word}
 

@@ -3,14 +3,13 @@ use Rattle.std.proofs.Common.{◌≡◌, ℕ, suc, ◌≤◌, ◌<◌, List, [],
 use Rattle.vk_ast.specs.Tree.{Tree, expr_of}
 use Rattle.vk_grammar.specs.declared.symbols.Sym.{Sym}
 use Rattle.vk_grammar.specs.Grammar.{Tall, tall, full, Spells, IsExpression, IsExpressionWithin}
-use Rattle.vk_grammar.specs.Parser.{Fault, Syntax, Deep}
 use Rattle.vk_grammar.specs.Reading.{whole_expression}
 use Rattle.vk_grammar.specs.Texts.{IsPlace, IsDeepPlace}
 use Rattle.vk_grammar.proofs.Theorem as theorem
 use Rattle.vk_expr.specs.declared.fail.ReadFail.{ReadFail}
 use Rattle.vk_expr.specs.declared.fail.ReadFail.TheVariants as fails
 use Rattle.vk_expr.specs.declared.nodes.High.{High}
-use Rattle.vk_expr.specs.Answers.{seen, Gives, Fails}
+use Rattle.vk_expr.specs.Answers.{seen, Gives}
 
 abbrev Whole : Result High ReadFail → List Sym → Type 0
 Whole result ts = (turns : ℕ) → length ts < turns → Gives (λ x. (seen x, [])) result (whole_expression turns 64 ts)

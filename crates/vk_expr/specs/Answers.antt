@@ -1,6 +1,6 @@
 -- What the code answers, against the readers on lists of tokens.
 use Rattle.std.specs.Borrow.{Bor}
-use Rattle.std.specs.Prelude.{◌≡◌, ℕ, List, [], ◌∷◌, Result, Ok, Err}
+use Rattle.std.specs.Prelude.{◌≡◌, ℕ, List, Result, Ok, Err}
 use Rattle.vk_ast.specs.Tree.{Trees, expr_of}
 use Rattle.vk_grammar.specs.declared.symbols.Sym.{Sym}
 use Rattle.vk_grammar.specs.Grammar.{Tall, tall, trees_in, greatest}

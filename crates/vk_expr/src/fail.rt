@@ -11,7 +11,7 @@ use vk_grammar::Sym;
 pub enum ReadFail {
     /// The first token that no text of the grammar has there: the place of C5.
     Syntax(usize),
-    /// The token from which on each text is too high: the place of C6.
+    /// A token up to which the tokens begin some text of the grammar, each such text being too high: a place of C6.
     Deep(usize),
     /// An allocation failed.
     Memory,

@@ -10,7 +10,7 @@ pub mod steps;
 pub mod words;
 
 pub use fail::{Read, ReadFail};
-pub use nodes::{High, Place};
+pub use nodes::{High, Start};
 pub use read::{read_expr, read_full, read_onwards, read_unary};
 
 #[cfg(test)]

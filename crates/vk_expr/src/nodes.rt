@@ -21,7 +21,7 @@ pub struct High {
 
 /// Where an expression begins: the line and the number of its first token.
 #[derive(Clone, Copy, PartialEq, Eq, Debug)]
-pub struct Place {
+pub struct Start {
     pub line: u32,
     pub token: u32,
 }
@@ -123,7 +123,7 @@ pub(crate) fn cast_node(alloc: Global, first: Sym, ty: Ty, operand: High) -> Res
 /// A subscript behind an operand that begins at `first`.
 pub(crate) fn index_node(
     alloc: Global,
-    first: Place,
+    first: Start,
     base: High,
     subscript: High,
 ) -> Result<High, ReadFail>
@@ -147,7 +147,7 @@ pub(crate) fn index_node(
 /// An operator between its operands, of which the left begins at `first`.
 pub(crate) fn binary_node(
     alloc: Global,
-    first: Place,
+    first: Start,
     op: BinOp,
     left: High,
     right: High,
@@ -172,7 +172,7 @@ pub(crate) fn binary_node(
 /// A conditional expression whose condition begins at `first`.
 pub(crate) fn choice_node(
     alloc: Global,
-    first: Place,
+    first: Start,
     condition: High,
     yes: High,
     other: High,

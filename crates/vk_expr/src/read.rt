@@ -8,7 +8,7 @@ ghost use Rattle.vk_grammar.specs.Texts.{IsPlace, IsDeepPlace};
 ghost use Rattle.vk_expr.specs.Answers.{seen, Gives, Reads};
 
 use crate::fail::{Read, ReadFail};
-use crate::nodes::{High, Place};
+use crate::nodes::{High, Start};
 use crate::reader::{expression, onwards, operand};
 use std::alloc::Global;
 use vk_grammar::Sym;
@@ -37,7 +37,7 @@ pub fn read_unary(alloc: Global, syms: &[Sym]) -> Read<'_, High>
 }
 
 /// What goes on behind a `unary` that begins at `first`, to a whole `cond` of at most 64 levels, and the tokens behind it.
-pub fn read_onwards(alloc: Global, first: Place, left: High, syms: &[Sym]) -> Read<'_, High>
+pub fn read_onwards(alloc: Global, first: Start, left: High, syms: &[Sym]) -> Read<'_, High>
     requires low { 1 ≤ left.height }
     requires high { left.height ≤ 64 }
     ensures value { (turns : ℕ) → length syms.now < turns

@@ -11,11 +11,11 @@ ghost use Rattle.vk_expr.specs.Answers.{seen, Gives, Reads, summed};
 
 use crate::fail::{Read, ReadFail};
 use crate::nodes::{
-    Arguments, High, Place, binary_node, call_node, cast_node, choice_node, index_node, int_node,
+    Arguments, High, Start, binary_node, call_node, cast_node, choice_node, index_node, int_node,
     name_node, prefix_node,
 };
 use crate::signs::{
-    is_sign, is_start, is_type_part, kind_at, operator_at, place_at, place_of, prefix_at,
+    is_sign, is_start, is_type_part, kind_at, operator_at, prefix_at, start_at, start_of,
 };
 use crate::steps::{expect, take};
 use crate::words::{type_in, type_words};
@@ -29,6 +29,7 @@ use vk_tokens::Mark;
 fn nothing(syms: &[Sym]) -> Read<'_, High>
     ensures value { Reads result (spec.nothing syms.now) }
     ensures none { IfOk result (λ _. ⊥) }
+    ensures memory { result ≡ Err ReadFail.Memory → ⊥ }
 {
     if is_start(kind_at(syms)) {
         Err(ReadFail::Deep(syms.len()))
@@ -189,7 +190,7 @@ fn atom(alloc: Global, below: u32, syms: &[Sym]) -> Read<'_, High>
 // The subscripts behind an operand that begins at `first`.
 #[cycle(reading)]
 #[tactic(auto, unfolding(vk_grammar::specs::Reading::subscripts, vk_grammar::specs::Reading::subscript_step, vk_grammar::specs::Reading::subscript))]
-fn subscripts(alloc: Global, below: u32, first: Place, base: High, syms: &[Sym]) -> Read<'_, High>
+fn subscripts(alloc: Global, below: u32, first: Start, base: High, syms: &[Sym]) -> Read<'_, High>
     requires below { below < 64 }
     requires low { 1 ≤ base.height }
     requires high { base.height ≤ below + 1 }
@@ -222,7 +223,7 @@ fn post(alloc: Global, below: u32, syms: &[Sym]) -> Read<'_, High>
     ensures low { IfOk result (λ x. 1 ≤ x.0.height) }
     ensures high { IfOk result (λ x. x.0.height ≤ below + 1) }
 {
-    let first = place_at(syms);
+    let first = start_at(syms);
     let (base, rest) = atom(alloc, below, syms)?;
     subscripts(alloc, below, first, base, rest)
 }
@@ -278,7 +279,7 @@ fn behind_paren(alloc: Global, below: u32, first: Sym, syms: &[Sym]) -> Read<'_,
         return cast_of(alloc, below, first, syms);
     }
     let (base, rest) = group(alloc, below, syms)?;
-    subscripts(alloc, below, place_of(&first), base, rest)
+    subscripts(alloc, below, start_of(&first), base, rest)
 }
 
 // At a `(`.
@@ -343,7 +344,7 @@ fn operators(
     alloc: Global,
     below: u32,
     n: u32,
-    first: Place,
+    first: Start,
     left: High,
     syms: &[Sym],
 ) -> Read<'_, High>
@@ -383,7 +384,7 @@ fn level(alloc: Global, below: u32, n: u32, syms: &[Sym]) -> Read<'_, High>
     if n == 0 {
         return unary(alloc, below, syms);
     }
-    let first = place_at(syms);
+    let first = start_at(syms);
     let (left, rest) = level(alloc, below, n - 1, syms)?;
     operators(alloc, below, n - 1, first, left, rest)
 }
@@ -394,7 +395,7 @@ fn level(alloc: Global, below: u32, n: u32, syms: &[Sym]) -> Read<'_, High>
 fn branches(
     alloc: Global,
     below: u32,
-    first: Place,
+    first: Start,
     condition: High,
     syms: &[Sym],
 ) -> Read<'_, High>
@@ -416,7 +417,7 @@ fn branches(
 // Behind a condition that begins at `first`: its branches, or nothing.
 #[cycle(reading)]
 #[tactic(auto, unfolding(vk_grammar::specs::Reading::choices))]
-fn choices(alloc: Global, below: u32, first: Place, condition: High, syms: &[Sym]) -> Read<'_, High>
+fn choices(alloc: Global, below: u32, first: Start, condition: High, syms: &[Sym]) -> Read<'_, High>
     requires below { below < 64 }
     requires low { 1 ≤ condition.height }
     requires high { condition.height ≤ below + 1 }
@@ -445,7 +446,7 @@ fn conditional(alloc: Global, below: u32, syms: &[Sym]) -> Read<'_, High>
     ensures low { IfOk result (λ x. 1 ≤ x.0.height) }
     ensures high { IfOk result (λ x. x.0.height ≤ below + 1) }
 {
-    let first = place_at(syms);
+    let first = start_at(syms);
     let (condition, rest) = level(alloc, below, 10, syms)?;
     choices(alloc, below, first, condition, rest)
 }
@@ -456,7 +457,7 @@ fn climb(
     alloc: Global,
     below: u32,
     n: u32,
-    first: Place,
+    first: Start,
     left: High,
     syms: &[Sym],
 ) -> Read<'_, High>
@@ -482,7 +483,7 @@ fn climb(
 pub(crate) fn onwards(
     alloc: Global,
     below: u32,
-    first: Place,
+    first: Start,
     left: High,
     syms: &[Sym],
 ) -> Read<'_, High>

@@ -3,7 +3,7 @@
 ghost use Rattle.std.specs.Prelude.{◌≡◌, ◌≤◌, ◌<◌, IfSome};
 ghost use Rattle.vk_grammar.specs.Symbols as spec;
 
-use crate::nodes::Place;
+use crate::nodes::Start;
 use vk_ast::{BinOp, UnOp};
 use vk_grammar::{Keyword, Operator, Prefix, Sym, SymKind};
 use vk_tokens::Mark;
@@ -19,21 +19,21 @@ pub fn kind_at(syms: &[Sym]) -> Option<SymKind>
 }
 
 /// Where the first token stands, or 0 and 0 at the end.
-pub fn place_at(syms: &[Sym]) -> Place
+pub fn start_at(syms: &[Sym]) -> Start
     ensures line { result.line ≡ spec.line_at syms.now }
     ensures token { result.token ≡ spec.number_at syms.now }
 {
     match syms {
-        [] => Place { line: 0, token: 0 },
-        [first, ..] => place_of(first),
+        [] => Start { line: 0, token: 0 },
+        [first, ..] => start_of(first),
     }
 }
 
 /// Where this token stands.
-pub fn place_of(sym: &Sym) -> Place
+pub fn start_of(sym: &Sym) -> Start
     ensures { result ≡ record { line = sym.now.line; token = sym.now.at } }
 {
-    Place {
+    Start {
         line: sym.line,
         token: sym.at,
     }

@@ -13,6 +13,7 @@ use vk_tokens::Mark;
 pub fn take(syms: &[Sym]) -> Read<'_, Sym>
     ensures value { Gives (λ x. (x.0, x.1.now)) result (spec.take syms.now) }
     ensures shorter { IfOk result (λ x. length x.1.now + 1 ≡ length syms.now) }
+    ensures memory { result ≡ Err ReadFail.Memory → ⊥ }
 {
     match syms {
         [] => Err(ReadFail::Syntax(0)),
@@ -24,6 +25,7 @@ pub fn take(syms: &[Sym]) -> Read<'_, Sym>
 pub fn expect(mark: Mark, syms: &[Sym]) -> Read<'_, Sym>
     ensures value { Gives (λ x. (x.0, x.1.now)) result (spec.expect mark syms.now) }
     ensures shorter { IfOk result (λ x. length x.1.now + 1 ≡ length syms.now) }
+    ensures memory { result ≡ Err ReadFail.Memory → ⊥ }
 {
     if is_sign(mark, kind_at(syms)) {
         take(syms)

@@ -164,6 +164,7 @@ fn part_count(syms: &[Sym]) -> usize
 pub fn type_words(syms: &[Sym]) -> Read<'_, &[Sym]>
     ensures value { (turns : ℕ) → length syms.now < turns → Gives (λ x. (x.0.now, x.1.now)) result (spec.type_words turns syms.now) }
     ensures shorter { IfOk result (λ x. length x.1.now ≤ length syms.now) }
+    ensures memory { result ≡ Err ReadFail.Memory → ⊥ }
 {
     let (words, rest) = syms.split_at(part_count(syms));
     if has_words(words) {

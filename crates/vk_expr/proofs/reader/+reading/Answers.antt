@@ -1,10 +1,8 @@
-use Rattle.std.proofs.Common.{◌≡◌, ◌+◌, ◌<◌, true, false, List, [], ◌∷◌, length, Some, Ok, sym, ap, ◌∙◌, arith, rules}
-use Rattle.vk_ast.specs.declared.expressions.Expr.{Expr}
+use Rattle.std.proofs.Common.{◌≡◌, ◌+◌, true, false, Some, arith, rules}
 use Rattle.vk_tokens.specs.declared.tokens.Mark.TheVariants as mark
 use Rattle.vk_grammar.specs.Symbols.{head, operator_at, is_sign}
-use Rattle.vk_grammar.specs.Reading.{some_arguments, expression}
-use Rattle.vk_expr.specs.Answers.{seen, Reads, summed}
-use Rattle.vk_expr.proofs.Lists.{Going, first_turn, one_turn, last_turn, no_turn}
+use Rattle.vk_expr.specs.Answers.{seen, Reads}
+use Rattle.vk_expr.proofs.Lists.{first_turn, one_turn, last_turn, no_turn}
 use Rattle.vk_expr.proofs.Chains.{operator_read, subscript_read}
 use Rattle.vk_expr.proofs.reader.+reading.Goals as goal
 

@@ -1,4 +1,4 @@
-use Rattle.std.proofs.Common.{◌≡◌, count_by, sym, ◌∙◌, rules}
+use Rattle.std.proofs.Common.{◌≡◌, count_by, ◌∙◌, rules}
 use Rattle.vk_grammar.specs.declared.symbols.Sym.{Sym}
 use Rattle.vk_expr.specs.TypeRows.{is_word}
 use Rattle.vk_expr.proofs.Parts.{word_counted}
