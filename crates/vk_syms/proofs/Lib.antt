@@ -1,1 +1,2 @@
 mod Split
+mod Known

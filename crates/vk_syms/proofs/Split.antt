@@ -1,6 +1,6 @@
 -- How the split of a unit's tokens grows by one token.
 use Rattle.std.proofs.Common.{◌≡◌, ◌≢◌, ℕ, ◌+◌, ◌-◌, ◌<◌, ◌≤◌, ◌==◌, suc, Bool, true, false, not, ◌&&◌, cond, nat_lt, List, [], ◌∷◌, ◌++◌, map, filter, take, length, count_by, get_or, set, refl, sym, ap, ap₂, ◌∙◌, subst, inl, inr,  append_assoc, arith, length-append}
-use Rattle.std.proofs.lemmas.List.{append-nil, map-append, map-set, get_or-map, get_or_push, get_or_append_left, get_or-set_same, get_or-set_other, length-set, length-map, length-take-le, take_more}
+use Rattle.std.proofs.lemmas.List.{append-nil, map-append, map-set, get_or-map, get_or_push, get_or_append_left, get_or-set_same, get_or-set_other, length-set, length-map, length-take-le, take_more, take_all}
 use Rattle.std.proofs.lemmas.List.Elements.{filter-append}
 use Rattle.std.proofs.lemmas.List.Sums.{sum_by_push, count_by-le-length}
 use Rattle.std.proofs.lemmas.Bool.{cases_lt, cases_order, cases_Bool, false≢true}
@@ -244,3 +244,7 @@ next names ts all at d t syms lines ends count kind more later l within same_lis
       few = set_length inside t.kind s lines at l.few;
       fewer = rw (e, as_cond (is_line_end t.kind)) (at_most (is_line_end t.kind) ends at l.fewer);
     }
+
+pub finished : (names : List (List ℕ)) (ts : List Token) (at : ℕ) {syms : List Sym} {lines : List (List Sym)} {ends : ℕ} → Splitting names ts at syms lines ends → length ts ≤ at
+    → IsSplit names ts syms lines ends
+finished names ts at {syms = syms} {lines = lines} {ends = ends} l over = subst (λ (front : List Token). IsSplit names front syms lines ends) (take_all at ts over) l.split

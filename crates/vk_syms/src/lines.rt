@@ -4,7 +4,7 @@ ghost use Rattle.std.specs.Prelude.{◌≡◌, ◌+◌, ◌≤◌, ◌<◌, ℕ,
 ghost use Rattle.std.specs.List.{All};
 ghost use Rattle.vk_tokens.specs.Names.{IsNamed};
 ghost use Rattle.vk_syms.specs.Lines.{outside, clauses, begun, ended, sym_kind, is_heading, is_line_end, with_last, next_outside, next_lines};
-ghost use Rattle.vk_syms.specs.Syms.{rows, line_of};
+ghost use Rattle.vk_syms.specs.Syms.{rows, line_of, IsKnown, HasLine};
 
 use crate::words::name_kind;
 use std::alloc::Global;
@@ -96,6 +96,10 @@ pub fn classify(alloc: Global, tokens: &Tokens) -> Result<Syms, Memory>
     // Those of the clauses of each line, the lines being counted from 1.
     ensures count { IfOk result (λ s. length s.lines.items ≡ begun tokens.now.list.items) }
     ensures clauses { IfOk result (λ s. (n : ℕ) → 1 ≤ n → n ≤ length s.lines.items → line_of s n ≡ clauses tokens.now.names tokens.now.list.items n) }
+    // Each name is in the table, and each line has one of these numbers.
+    ensures named { IfOk result (λ s. All (λ t. IsKnown tokens.now.names t.kind) s.outside.items) }
+    ensures named_clauses { IfOk result (λ s. (n : ℕ) → 1 ≤ n → n ≤ length s.lines.items → All (λ t. IsKnown tokens.now.names t.kind) (line_of s n)) }
+    ensures numbered { IfOk result (λ s. All (λ t. HasLine (length s.lines.items) t.kind) s.outside.items) }
 {
     let mut syms = Syms {
         outside: Vec::new(alloc),
