@@ -1,0 +1,84 @@
+// The words of clauses (OpenMP 5.2, declare simd).
+
+ghost use Rattle.std.specs.Prelude.{◌≡◌};
+ghost use Rattle.vk_syms.specs.Words.{with_text};
+ghost use Rattle.vk_syms.specs.Syms.{IsKnown};
+ghost use Rattle.vk_directives.specs.Words.{word_text, word_of, word_at};
+
+use vk_ast::NameTable;
+use vk_grammar::SymKind;
+
+/// A word of a clause.
+#[derive(Clone, Copy, PartialEq, Eq, Debug)]
+pub enum Word {
+    Simdlen,
+    Uniform,
+    Aligned,
+    Linear,
+    Inbranch,
+    Notinbranch,
+    Val,
+    Ref,
+    Uval,
+    Step,
+}
+
+const WORDS: [Word; 10] = [
+    Word::Simdlen,
+    Word::Uniform,
+    Word::Aligned,
+    Word::Linear,
+    Word::Inbranch,
+    Word::Notinbranch,
+    Word::Val,
+    Word::Ref,
+    Word::Uval,
+    Word::Step,
+];
+
+fn word_text(word: Word) -> &'static [u8]
+    ensures { result.now ≡ word_text word }
+{
+    match word {
+        Word::Simdlen => b"simdlen",
+        Word::Uniform => b"uniform",
+        Word::Aligned => b"aligned",
+        Word::Linear => b"linear",
+        Word::Inbranch => b"inbranch",
+        Word::Notinbranch => b"notinbranch",
+        Word::Val => b"val",
+        Word::Ref => b"ref",
+        Word::Uval => b"uval",
+        Word::Step => b"step",
+    }
+}
+
+// The first of the words with this text.
+fn first_word(words: &[Word], text: &[u8]) -> Option<Word>
+    ensures { result ≡ with_text word_text words.now text.now }
+{
+    for word in words {
+        if word_text(*word) == text {
+            return Some(*word);
+        }
+    }
+    None
+}
+
+#[tactic(auto, unfolding(crate::specs::Words::word_of))]
+fn word_of(text: &[u8]) -> Option<Word>
+    ensures { result ≡ word_of text.now }
+{
+    first_word(&WORDS, text)
+}
+
+/// The word that a token is.
+pub fn word_at(names: &NameTable, kind: SymKind) -> Option<Word>
+    requires { IsKnown names.now kind }
+    ensures { result ≡ word_at names.now kind }
+{
+    match kind {
+        SymKind::Name(id) => word_of(names.text(id)),
+        _ => None,
+    }
+}
