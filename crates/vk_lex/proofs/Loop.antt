@@ -12,7 +12,8 @@ use Rattle.vk_tokens.specs.declared.tokens.TokenKind.{TokenKind}
 use Rattle.vk_tokens.specs.declared.tokens.TokenKind.TheVariants.{Name, Int, Sign, Simdfn, Simd, LineEnd}
 use Rattle.vk_tokens.specs.declared.rules.UnitRule.{UnitRule}
 use Rattle.vk_lex.specs.Characters.{Char, numbered, joined, characters, text_of, line_of, is_word_byte, is_word_start, run, begins, begins_two}
-use Rattle.vk_lex.specs.Tokens.{Kind, word, integer, sign, simdfn, simd, line_end, Tok, tok_of, kind_of, IsNamed, IsIdentifier, AreIdentifiers, TellsOne, Tells}
+use Rattle.vk_tokens.specs.Names.{IsNamed}
+use Rattle.vk_lex.specs.Tokens.{Kind, word, integer, sign, simdfn, simd, line_end, Tok, tok_of, kind_of, IsIdentifier, AreIdentifiers, TellsOne, Tells}
 use Rattle.vk_lex.specs.declared.pieces.Mode.{Mode}
 use Rattle.vk_lex.specs.declared.pieces.Mode.TheVariants.{Start, Inside, Directive, Idle}
 use Rattle.vk_lex.specs.Headings.{Heading, an_include, a_pragma, a_directive, IsDirective, a_simd, a_simdfn}
@@ -247,6 +248,7 @@ pub record Lexed (bytes : List ℕ) (names : List (List ℕ)) (list : List Token
   pub named : All (λ t. IsNamed names t.kind) list
   pub identifiers : AreIdentifiers names
   pub count : length list ≤ length bytes
+  pub few : length names ≤ length list
 
 module _ (bytes : List ℕ) (names : List (List ℕ)) (list : List Token) (m : Mode) (old : Lexing bytes names list m []) (new : List Token) (now : List (List ℕ)) where
   ended_none : ended m ≡ None → new ≡ list → now ≡ names → Lexed bytes now new
@@ -258,6 +260,7 @@ module _ (bytes : List ℕ) (names : List (List ℕ)) (list : List Token) (m : M
         named = old.named;
         identifiers = old.identifiers;
         count = omega (arith, old.count, text_length bytes);
+        few = old.few;
       }))
 
   ended_some : (k : Kind) → ended m ≡ Some k → TellsOne (line_of bytes 0) k list new names now → Lexed bytes now new
@@ -267,6 +270,7 @@ module _ (bytes : List ℕ) (names : List (List ℕ)) (list : List Token) (m : M
     named = told_named one old.named;
     identifiers = told_identifiers one (subst (λ (o : Option Kind). IsGood o) e (ended_good m)) old.identifiers;
     count = omega (arith, old.count, text_length bytes, told_count one, ended_owes m k e);
+    few = omega (arith, one.grows.most, old.few, told_count one);
   }
 
   pub lexed : (k : Option Kind) → ended m ≡ k → Tells k (line_of bytes 0) list new names now → Lexed bytes now new

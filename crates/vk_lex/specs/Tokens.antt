@@ -1,7 +1,8 @@
 -- Tokens by their texts, and the state between two of them.
-use Rattle.std.specs.Prelude.{◌≡◌, ℕ, ◌+◌, ◌<◌, ◌≤◌, true, List, [], ◌∷◌, ◌++◌, ◌⊎◌, length, slice_get, slice_index, Option, Some, None}
+use Rattle.std.specs.Prelude.{◌≡◌, ℕ, ◌+◌, ◌≤◌, true, List, [], ◌∷◌, ◌++◌, ◌⊎◌, length, slice_get, slice_index, Option, Some, None}
 use Rattle.std.specs.List.{list_all}
 use Rattle.vk_lex.specs.Characters.{is_word_byte, is_word_start}
+use Rattle.vk_tokens.specs.Names.{IsNamed}
 use Rattle.std.specs.Option.{unwrap_or}
 use Rattle.vk_types.specs.declared.types.Ty.{Ty}
 use Rattle.vk_lex.specs.declared.pieces.Found.{Found}
@@ -44,15 +45,6 @@ kind_of names LineEnd = line_end
 
 abbrev pub tok_of : List (List ℕ) → Token → Tok
 tok_of names t = record { line = t.line; kind = kind_of names t.kind }
-
--- a name is in the table
-abbrev pub IsNamed : List (List ℕ) → TokenKind → Type 0
-IsNamed names (Name id) = id.0 < length names
-IsNamed names (Int t n) = Unit {0}
-IsNamed names (Sign m) = Unit {0}
-IsNamed names Simdfn = Unit {0}
-IsNamed names Simd = Unit {0}
-IsNamed names LineEnd = Unit {0}
 
 -- an identifier (C17 6.4.2.1)
 pub record IsIdentifier (text : List ℕ) : Type 0 where

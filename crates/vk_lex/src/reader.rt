@@ -4,7 +4,8 @@ ghost use Rattle.std.specs.Prelude.{◌≡◌, ◌<◌, ◌≤◌, ℕ, List, ma
 ghost use Rattle.std.specs.List.{All};
 ghost use Rattle.vk_ast.specs.Names.{AreDistinct};
 ghost use Rattle.vk_lex.specs.Characters.{characters as characters_in, last_line, line_of, lines_of};
-ghost use Rattle.vk_lex.specs.Tokens.{Tok, found_kind, kind_of, tok_of, IsNamed, AreIdentifiers, Grows, Tells};
+ghost use Rattle.vk_tokens.specs.Names.{IsNamed};
+ghost use Rattle.vk_lex.specs.Tokens.{Tok, found_kind, kind_of, tok_of, AreIdentifiers, Grows, Tells};
 ghost use Rattle.std.specs.Option.{option_map};
 ghost use Rattle.vk_tokens.specs.declared.rules.UnitFail.TheVariants.{Memory as MemoryFail};
 ghost use Rattle.vk_lex.specs.Lexing.{Lexes, Refuses};
@@ -89,6 +90,7 @@ pub fn lex(alloc: Global, bytes: &[u8]) -> Result<Tokens, UnitFail>
     ensures identifiers { IfOk result (λ ts. AreIdentifiers ts.names) }
     ensures last { IfOk result (λ ts. ts.last ≡ last_line bytes.now) }
     ensures count { IfOk result (λ ts. length ts.list.items ≤ length bytes.now) }
+    ensures few { IfOk result (λ ts. length ts.names ≤ length ts.list.items) }
 {
     let characters = characters_of(alloc, bytes)?;
     let mut list = Vec::new(alloc);

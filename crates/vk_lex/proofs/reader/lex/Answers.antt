@@ -72,3 +72,6 @@ returns-clause-identifiers c = (whole c).identifiers
 
 pub returns-clause-count : goal.returns-clause-count
 returns-clause-count c = (whole c).count
+
+pub returns-clause-few : goal.returns-clause-few
+returns-clause-few c = (whole c).few
