@@ -1,13 +1,7 @@
-// A library with one function.
+//! The grammar of units: the texts of functions, objects and whole units, and a reader on lists of tokens.
+//!
+//! As for expressions and statements, the grammar is a relation, and the reader a function between it and the code of the
+//! parser.
 #![tactic(auto)]
 
-ghost use Rattle.std.specs.Prelude.{◌≡◌};
-ghost use Rattle.vk_unit_grammar.specs.Echo.{echo_of};
-
-// The `ensures` clause is the contract: what `echo` returns is `echo_of` of its argument, a definition
-// in `specs/Echo.antt`, which a caller's clause can cite too.
-pub fn echo(x: usize) -> usize
-    ensures { result ≡ echo_of x }
-{
-    x
-}
+pub mod laws;
