@@ -1,1 +1,4 @@
 mod Examples
+pub mod Signs
+pub mod Closed
+pub mod Sound

@@ -1,0 +1,172 @@
+-- What the reader of statements tells follows the grammar: the laws of `Steps` of expressions, function by function.
+use Rattle.std.proofs.Common.{◌≡◌, ℕ, zero, suc, max, Bool, true, false, nat_lt, List, [], ◌∷◌, ◌++◌, Option, Some, None, Ok, refl, sym, ap, ◌∙◌, subst, append_assoc, true≢false}
+use Rattle.vk_types.specs.declared.types.Ty.{Ty}
+use Rattle.vk_ast.specs.declared.names.NameId.{NameId}
+use Rattle.vk_ast.specs.declared.expressions.BinOp.{BinOp}
+use Rattle.vk_ast.specs.Tree.{Tree}
+use Rattle.vk_ast.specs.Statements.{StmtTree}
+use Rattle.vk_tokens.specs.declared.tokens.Mark.{Mark}
+use Rattle.vk_tokens.specs.declared.tokens.Mark.TheVariants as mark
+use Rattle.vk_grammar.specs.declared.symbols.Sym.{Sym}
+use Rattle.vk_grammar.specs.declared.symbols.SymKind.{SymKind}
+use Rattle.vk_grammar.specs.declared.symbols.SymKind.TheVariants as kind
+use Rattle.vk_grammar.specs.declared.symbols.Keyword.TheVariants as keyword
+use Rattle.vk_grammar.specs.Symbols.{head, line_at, number_at, Is, IsSign, is_sign, is_type_part}
+use Rattle.vk_grammar.specs.Types.{IsType, type_in, AreTypeParts, no_parts, a_part, words_of, has_words}
+use Rattle.vk_grammar.specs.Grammar.{Tall, tall, level, full, Spells}
+use Rattle.vk_grammar.specs.Parser.{Parser, pure, ◌>>=◌, take, pick, pick_some, many}
+use Rattle.vk_grammar.specs.Reading.{type_words, expression}
+use Rattle.vk_grammar.proofs.Steps.{Follows, Goes, goes, finished, pure_follows, refuse_follows, deep_follows, pick_follows, pick_some_follows, look_follows, choose_follows, choose_some_follows, into_follows, bind_follows, bind_is_follows, seq_follows, take_follows, tail_follows, many_follows}
+use Rattle.vk_grammar.proofs.Signs.{sign_of, sign_of_is, take_sign_follows, sign_deep_follows, expect_follows, then_expect_follows}
+use Rattle.vk_grammar.proofs.Starts.{Starts, spelled_starts, zero_sym, zero_tree, zero_tall, zero_spelled, in_sort, Spelled}
+use Rattle.vk_grammar.proofs.Sound.{here_bind_follows, IsTypeText, type_words_follows, expression_follows}
+use Rattle.vk_grammar.proofs.Climb.{onwards_follows}
+use Rattle.vk_stmt_grammar.specs.Words.{IsKeyword, is_keyword, name_at, has_const, assign_at, IsAssign, step_at, IsStep, is_stmt_start}
+use Rattle.vk_stmt_grammar.specs.Trees.{Clauses, directive_at, stmts_in, joined, single, unit_at, is_open}
+use Rattle.vk_stmt_grammar.specs.Grammar
+use Rattle.vk_stmt_grammar.specs.Grammar.{InParens, in_parens, IsOptional, left_out, given, IsAct, an_assignment, a_step_before, a_step_behind, a_value, IsPart, no_act, an_act, IsNamed, bare, with_value, AreNamed, none_named, more_named, AreLocals, IsFirst, first_act, first_locals, IsPlain, a_block, a_part, an_if, an_if_else, a_while, a_do, a_for, a_break, a_continue, a_return, a_simd, a_lost_line, IsStmt, a_plain, some_locals, IsEntry, plain_entry, locals_entry, AreEntries, no_entries, more_entries}
+use Rattle.vk_stmt_grammar.specs.Reading.{is_not, no_level, cond, unary, condition, optional, step_before, assigned, stepped, valued, behind_operand, act, part, initial, named_local, local, later_local, local_list, locals, one_locals, jump, returned, block, else_part, choice, while_loop, do_loop, first_part, for_rest, for_loop, simd_line, lost_line, deeper, plain_at, plain, one_statement, one_entry, statement, entry}
+use Rattle.vk_stmt_grammar.proofs.Signs.{Has, has, has_as, take_word_follows, word_of, word_of_is, expect_word_follows, take_name_follows, take_assign_follows, take_step_follows, Parted, here_then_follows, not_true}
+
+module _ (e turns : ℕ) where
+  pub cond_follows : (w : List Sym) → Follows (Spelled full) [] (cond e turns) w
+  unfolding cond
+  cond_follows w = expression_follows turns (suc e) full w
+
+  unary_follows : (w : List Sym) → Follows (Spelled (level 0)) [] (unary e turns) w
+  unfolding unary
+  unary_follows w = expression_follows turns (suc e) (level 0) w
+
+  condition_follows : (w : List Sym) → Follows (Has InParens) [] (condition e turns) w
+  unfolding condition
+  condition_follows w = expect_follows
+      (λ u r opens. then_expect_follows {S = Spelled full} (cond_follows r) (λ c v z r2 s shuts. pure_follows (has _ (in_parens opens s shuts))) (λ c v z s shuts. finished c.tree (has _ (in_parens opens s shuts))))
+      (λ u opens. goes (zero_sym ∷ (sign_of mark.CloseParen ∷ [])) zero_tree (has _ (in_parens opens (zero_spelled full) sign_of_is)))
+
+  pub optional_follows : (m : Mark) (w : List Sym) → Follows (Has (IsOptional m)) [] (optional e turns m) w
+  unfolding optional
+  optional_follows m w = choose_follows (is_sign m) (λ i. take_sign_follows i (λ t r is. pure_follows (has _ (left_out is))))
+      (λ i. then_expect_follows {S = Spelled full} (cond_follows w) (λ c v z r s is. pure_follows (has _ (given s is))) (λ c v z s is. finished (Some c.tree) (has _ (given s is))))
+
+  -- ---- assignments and expressions
+
+  an_assign : {t : Sym} {x : List Sym} {p a : Tree} {h k : ℕ} {o : Option BinOp} {u : Sym} {y : List Sym} → Spells (level 0) p h (t ∷ x) → IsAssign o u → Spells full a k y
+      → Has IsAct (StmtTree.assign t.line t.at o p a) (((t ∷ x) ++ (u ∷ [])) ++ y)
+  an_assign {t} {x} {p} {a} {h} {k} {o} {u} {y} s i s2 = has_as _ (sym (append_assoc (t ∷ x) (u ∷ []) y)) (an_assignment s i s2)
+
+  behind_follows : (t : Sym) (x : List Sym) (p : Tall) (w : List Sym) → Spells (level 0) p.tree p.height (t ∷ x) → Follows (Has IsAct) (t ∷ x) (behind_operand e turns t.line t.at p) w
+  unfolding behind_operand assigned stepped valued
+  behind_follows t x p w s = look_follows (λ k. pick_some (assign_at k) (assigned e turns t.line t.at p) (pick_some (step_at k) (stepped e turns t.line t.at p) (valued e turns t.line t.at p)))
+      (pick_some_follows (assign_at (head w))
+      (λ o i. take_assign_follows i (λ u r is. bind_follows {S = Spelled full} (cond_follows r)
+      (λ a y r2 parts s2. pure_follows (an_assign s is s2)) (λ a y s2. finished (StmtTree.assign t.line t.at o p.tree a.tree) (an_assign s is s2))))
+      (λ _. pick_some_follows (step_at (head w))
+      (λ o i. take_step_follows i (λ u r is. pure_follows (has _ (a_step_behind s is))))
+      (λ _. seq_follows {S = Spelled full} (onwards_follows e turns (expression turns e) (λ s. expression_follows turns e s) t x p w s)
+      (λ a v r parts s2. pure_follows (has _ (a_value s2))) (λ a y s2. finished (StmtTree.value (line_at y) (number_at y) a.tree) (has _ (a_value s2))))))
+
+  act_follows : (w : List Sym) → Follows (Has IsAct) [] (act e turns) w
+  unfolding act step_before
+  act_follows w = choose_some_follows step_at
+      (λ o i. take_step_follows i (λ t r is. bind_follows {S = Spelled (level 0)} (unary_follows r)
+      (λ p x r2 parts s. pure_follows (has _ (a_step_before is s))) (λ p x s. finished (StmtTree.assign t.line t.at (Some o) p.tree (unit_at t)) (has _ (a_step_before is s)))))
+      (λ i. here_bind_follows {S = Spelled (level 0)} (behind_operand e turns) (unary_follows w) (λ a v s. spelled_starts s) (λ a t x r s. behind_follows t x a r s)
+      (λ a v s. finished (StmtTree.value (line_at v) (number_at v) a.tree) (has _ (a_value (in_sort full s)))))
+
+  part_follows : (m : Mark) (w : List Sym) → Follows (Has (IsPart m)) [] (part e turns m) w
+  unfolding part
+  part_follows m w = choose_follows (is_sign m) (λ i. take_sign_follows i (λ t r is. pure_follows (has _ (no_act is))))
+      (λ i. then_expect_follows {S = Has IsAct} (act_follows w) (λ s v z r a is. pure_follows (has _ (an_act a.is is))) (λ s v z a is. finished s (has _ (an_act a.is is))))
+
+  -- ---- declarations
+
+  data IsInitial : Option Tree → ℕ → List Sym → Type 0 where
+    not_initial : IsInitial None 0 []
+    an_initial : {t : Sym} {c : Tree} {h : ℕ} {x : List Sym} → IsSign mark.Assign t → Spells full c h x → IsInitial (Some c) h (t ∷ x)
+
+  initial_follows : (w : List Sym) → Follows (Has IsInitial) [] (initial e turns) w
+  unfolding initial
+  initial_follows w = choose_follows (is_sign mark.Assign)
+      (λ i. take_sign_follows i (λ t r is. bind_follows {S = Spelled full} (cond_follows r) (λ a x r2 parts s. pure_follows (has _ (an_initial is s))) (λ a x s. finished (Some a.tree) (has _ (an_initial is s)))))
+      (λ i. pure_follows (has _ not_initial))
+
+  initialised : {ty : Ty} {fixed : Bool} {id : NameId} {t : Sym} {c : Option Tree} {h : ℕ} {x : List Sym} → Is (kind.Name id) t → IsInitial c h x
+      → IsNamed ty fixed (StmtTree.local t.line t.at ty fixed id c) h (t ∷ x)
+  initialised i not_initial = bare i
+  initialised i (an_initial is s) = with_value i is s
+
+  -- a name, the shortest declaration of one
+  no_name : NameId
+  no_name = record { 0 = 0 }
+
+  name_sym : Sym
+  name_sym = record { line = 0; at = 0; kind = kind.Name no_name }
+
+  named : (ty : Ty) (fixed : Bool) → Has (IsNamed ty fixed) (StmtTree.local 0 0 ty fixed no_name None) (name_sym ∷ [])
+  unfolding name_sym
+  named ty fixed = has _ (bare (record { is = refl }))
+
+  local_follows : (ty : Ty) (fixed : Bool) (w : List Sym) → Follows (Has (IsNamed ty fixed)) [] (local e turns ty fixed) w
+  unfolding local named_local name_sym
+  local_follows ty fixed w = choose_some_follows name_at
+      (λ id i. take_name_follows i (λ t r is. bind_follows {S = Has IsInitial} (initial_follows r) (λ c x r2 parts a. pure_follows (has _ (initialised is a.is)))
+      (λ c x a. finished (StmtTree.local t.line t.at ty fixed id c) (has _ (initialised is a.is)))))
+      (λ i. refuse_follows (goes (name_sym ∷ []) (StmtTree.local 0 0 ty fixed no_name None) (named ty fixed)))
+
+  data IsLater (ty : Ty) (fixed : Bool) : StmtTree → ℕ → List Sym → Type 0 where
+    later : {t : Sym} {s : StmtTree} {h : ℕ} {x : List Sym} → IsSign mark.Comma t → IsNamed ty fixed s h x → IsLater ty fixed s h (t ∷ x)
+
+  later_follows : (room : Bool) (ty : Ty) (fixed : Bool) (w : List Sym) → is_sign mark.Comma (head w) ≡ true → Follows (Has (IsLater ty fixed)) [] (later_local e turns room ty fixed) w
+  unfolding later_local name_sym
+  later_follows room ty fixed w i = pick_follows room
+      (λ _. take_sign_follows i (λ t r is. tail_follows {S = Has (IsNamed ty fixed)} (local_follows ty fixed r) (λ s v d. has _ (later is d.is))))
+      (λ _. sign_deep_follows i (λ t is. goes (name_sym ∷ []) (StmtTree.local 0 0 ty fixed no_name None) (has _ (later is (named ty fixed).is))))
+
+  later_joined : (ty : Ty) (fixed : Bool) (s : StmtTree) (list : List StmtTree) (x y : List Sym) → Has (IsLater ty fixed) s x → Has (AreNamed ty fixed) list y → Has (AreNamed ty fixed) (s ∷ list) (x ++ y)
+  later_joined ty fixed s list x y a b = go a.is
+    where
+      go : {h : ℕ} {x : List Sym} → IsLater ty fixed s h x → Has (AreNamed ty fixed) (s ∷ list) (x ++ y)
+      go (later is d) = has _ (more_named is d b.is)
+
+  data AreNames (ty : Ty) (fixed : Bool) : List StmtTree → ℕ → List Sym → Type 0 where
+    names : {s : StmtTree} {h : ℕ} {list : List StmtTree} {k : ℕ} {x y : List Sym} → IsNamed ty fixed s h x → AreNamed ty fixed list k y → AreNames ty fixed (s ∷ list) (max h k) (x ++ y)
+
+  local_list_follows : (room : Bool) (ty : Ty) (fixed : Bool) (w : List Sym) → Follows (Has (AreNames ty fixed)) [] (local_list e turns room ty fixed) w
+  unfolding local_list
+  local_list_follows room ty fixed w = bind_follows {S = Has (IsNamed ty fixed)} (local_follows ty fixed w)
+      (λ s x r parts d. bind_follows {S = Has (AreNamed ty fixed)}
+      (many_follows (is_sign mark.Comma) (later_local e turns room ty fixed) (has _ none_named) (later_joined ty fixed) (later_follows room ty fixed) turns r)
+      (λ list y r2 parts2 l. pure_follows (has _ (names d.is l.is))) (λ list y l. finished (s ∷ list) (has _ (names d.is l.is))))
+      (λ s x d. goes [] (s ∷ []) (has _ (names d.is none_named)))
+
+  declared : {c v : List Sym} {list : List StmtTree} {h : ℕ} {x : List Sym} {z : Sym} → IsTypeText c v → AreNames (type_in c) (has_const c) list h x → IsSign mark.Semicolon z
+      → Has AreLocals list ((v ++ x) ++ (z ∷ []))
+  declared {c} {v} {list} {h} {x} {z} text d shuts = go (subst (λ q. AreNames (type_in q) (has_const q) list h x) text.same d)
+    where
+      go : {h : ℕ} {list : List StmtTree} {x : List Sym} → AreNames (type_in v) (has_const v) list h x → Has AreLocals list ((v ++ x) ++ (z ∷ []))
+      go (names {x = x} {y = y} n l) = has_as _ (ap (λ q. v ++ q) (sym (append_assoc x y (z ∷ []))) ∙ sym (append_assoc v (x ++ y) (z ∷ []))) (Grammar.locals text.type n l shuts)
+
+  pub locals_follows : (room : Bool) (w : List Sym) → Follows (Has AreLocals) [] (locals e turns room) w
+  unfolding locals name_sym
+  locals_follows room w = bind_follows {S = IsTypeText} (type_words_follows turns w)
+      (λ c v r parts text. then_expect_follows {S = Has (AreNames (type_in c) (has_const c))} (local_list_follows room (type_in c) (has_const c) r)
+      (λ list x z r2 l shuts. pure_follows (declared text l.is shuts)) (λ list x z l shuts. finished list (declared text l.is shuts)))
+      (λ c v text. goes (name_sym ∷ (sign_of mark.Semicolon ∷ [])) (StmtTree.local 0 0 (type_in c) (has_const c) no_name None ∷ [])
+      (subst (Has AreLocals (StmtTree.local 0 0 (type_in c) (has_const c) no_name None ∷ [])) (append_assoc v (name_sym ∷ []) (sign_of mark.Semicolon ∷ []))
+      (declared text (names (named (type_in c) (has_const c)).is none_named) sign_of_is)))
+
+  type_parted : {c : List Sym} (y : List Sym) → IsType c → Parted (c ++ y)
+  unfolding words_of
+  type_parted y t = go t.parts t.has
+    where
+      go : {c : List Sym} → AreTypeParts c → has_words (words_of c) ≡ true → Parted (c ++ y)
+      go no_parts h = absurd (true≢false (sym h))
+      go (a_part {t = t} {rest = rest} p d) h = record { first = t; others = rest ++ y; parts = refl }
+
+  locals_parted : {list : List StmtTree} {h : ℕ} {x : List Sym} → AreLocals list h x → Parted x
+  locals_parted (Grammar.locals {x = x} {y = y} {v = v} type n l shuts) = type_parted (x ++ (y ++ (v ∷ []))) type
+
+  one_locals_follows : (room : Bool) (w : List Sym) → Follows (λ s u. (list : List StmtTree) × (Has AreLocals list u × (s ≡ single (line_at u) (number_at u) list))) [] (one_locals e turns room) w
+  unfolding one_locals
+  one_locals_follows room w = here_then_follows {S = Has AreLocals} (λ l k list. pure (single l k list)) (locals_follows room w) (λ list v d. locals_parted d.is)
+      (λ list v r d. pure_follows (list, (d, refl))) (λ list v d. finished (single (line_at v) (number_at v) list) (list, (d, refl)))
