@@ -26,6 +26,7 @@ use Rattle.vk_stmt_grammar.specs.Trees.{Clauses, directive_at, stmts_in, joined,
 use Rattle.vk_stmt_grammar.specs.Grammar
 use Rattle.vk_stmt_grammar.specs.Grammar.{InParens, in_parens, IsOptional, left_out, given, IsAct, an_assignment, a_step_before, a_step_behind, a_value, IsPart, no_act, an_act, IsNamed, bare, with_value, AreNamed, none_named, more_named, AreLocals, IsFirst, first_act, first_locals, IsPlain, a_block, a_part, an_if, an_if_else, a_while, a_do, a_for, a_break, a_continue, a_return, a_simd, a_lost_line, IsStmt, a_plain, some_locals, IsEntry, plain_entry, locals_entry, AreEntries, no_entries, more_entries}
 use Rattle.vk_stmt_grammar.specs.Reading.{is_not, no_level, cond, unary, condition, optional, step_before, assigned, stepped, valued, behind_operand, act, part, initial, named_local, local, later_local, local_list, locals, one_locals, jump, returned, block, else_part, choice, while_loop, do_loop, first_part, for_rest, for_loop, simd_line, lost_line, deeper, plain_at, plain, one_statement, one_entry, statement, entry}
+use Rattle.vk_stmt_grammar.proofs.Closed.{OnOk, Gives, Shut, statement_shuts}
 use Rattle.vk_stmt_grammar.proofs.Signs.{Has, has, has_as, take_word_follows, word_of, word_of_is, expect_word_follows, take_name_follows, take_assign_follows, take_step_follows, Parted, here_then_follows, not_true}
 
 module _ (e turns : ℕ) where
@@ -166,7 +167,203 @@ module _ (e turns : ℕ) where
   locals_parted : {list : List StmtTree} {h : ℕ} {x : List Sym} → AreLocals list h x → Parted x
   locals_parted (Grammar.locals {x = x} {y = y} {v = v} type n l shuts) = type_parted (x ++ (y ++ (v ∷ []))) type
 
-  one_locals_follows : (room : Bool) (w : List Sym) → Follows (λ s u. (list : List StmtTree) × (Has AreLocals list u × (s ≡ single (line_at u) (number_at u) list))) [] (one_locals e turns room) w
+  data AreOne : StmtTree → ℕ → List Sym → Type 0 where
+    one_of : {list : List StmtTree} {h : ℕ} {x : List Sym} → AreLocals list h x → AreOne (single (line_at x) (number_at x) list) h x
+
+  one_locals_follows : (room : Bool) (w : List Sym) → Follows (Has AreOne) [] (one_locals e turns room) w
   unfolding one_locals
   one_locals_follows room w = here_then_follows {S = Has AreLocals} (λ l k list. pure (single l k list)) (locals_follows room w) (λ list v d. locals_parted d.is)
-      (λ list v r d. pure_follows (list, (d, refl))) (λ list v d. finished (single (line_at v) (number_at v) list) (list, (d, refl)))
+      (λ list v r d. pure_follows (has _ (one_of d.is))) (λ list v d. finished (single (line_at v) (number_at v) list) (has _ (one_of d.is)))
+
+  locals_stmt : (clauses : Clauses) {s : StmtTree} {h : ℕ} {x : List Sym} → AreOne s h x → IsStmt clauses s h x
+  locals_stmt clauses (one_of d) = some_locals d
+
+  locals_first : {s : StmtTree} {h : ℕ} {x : List Sym} → AreOne s h x → IsFirst s h x
+  locals_first (one_of d) = first_locals d
+
+  -- ---- the shortest texts of a head
+
+  semicolon : Sym
+  semicolon = sign_of mark.Semicolon
+
+  empty_plain : (clauses : Clauses) → IsPlain clauses (StmtTree.empty 0 0) 0 (semicolon ∷ [])
+  unfolding semicolon
+  empty_plain clauses = a_part (no_act sign_of_is)
+
+  empty_stmt : (clauses : Clauses) → IsStmt clauses (StmtTree.empty 0 0) 0 (semicolon ∷ [])
+  empty_stmt clauses = a_plain (empty_plain clauses)
+
+module _ (clauses : Clauses) (e d turns : ℕ) (sub : Parser StmtTree) (sub_entry : Parser (List StmtTree)) (subs : (w : List Sym) → Follows (Has (IsStmt clauses)) [] sub w)
+    (entries : (w : List Sym) → Follows (Has (IsEntry clauses)) [] sub_entry w) (shuts : Gives Shut sub) where
+  zero_stmt : IsStmt clauses (StmtTree.empty 0 0) 0 (semicolon e turns ∷ [])
+  zero_stmt = empty_stmt e turns clauses
+
+  entries_follows : (w : List Sym) → Follows (λ lists. Has (AreEntries clauses) (joined lists)) [] (many turns (is_not mark.CloseBrace) sub_entry) w
+  entries_follows w = many_follows (is_not mark.CloseBrace) sub_entry (has _ no_entries) (λ list lists x y a b. has _ (more_entries a.is b.is)) (λ w i. entries w) turns w
+
+  block_follows : (t : Sym) (r : List Sym) → IsSign mark.OpenBrace t → Follows (Has (IsPlain clauses)) [] (block clauses e d turns sub sub_entry) (t ∷ r)
+  unfolding block
+  block_follows t r opens = take_follows (then_expect_follows {S = λ lists. Has (AreEntries clauses) (joined lists)} (entries_follows r)
+      (λ lists x v r2 a shuts. pure_follows (has _ (a_block opens a.is shuts))) (λ lists x v a shuts. finished (StmtTree.block t.line t.at (stmts_in (joined lists))) (has _ (a_block opens a.is shuts))))
+
+  -- ---- selection
+
+  an_else : {t : Sym} {c : Tree} {h : ℕ} {x : List Sym} {s : StmtTree} {k : ℕ} {y : List Sym} {u : Sym} {other : StmtTree} {m : ℕ} {z : List Sym}
+      → IsKeyword keyword.If t → InParens c h x → IsStmt clauses s k y → is_open s ≡ false → IsKeyword keyword.Else u → IsStmt clauses other m z
+      → Has (IsPlain clauses) (StmtTree.if_else t.line t.at c s other) (t ∷ (((x ++ y) ++ (u ∷ [])) ++ z))
+  an_else {t} {c} {h} {x} {s} {k} {y} {u} {other} {m} {z} i p a shut j b =
+      has_as _ (ap (λ q. t ∷ q) (sym (append_assoc (x ++ y) (u ∷ []) z ∙ append_assoc x y (u ∷ z)))) (an_if_else i p a shut j b)
+
+  else_follows : (t : Sym) (c : Tree) (h : ℕ) (x : List Sym) (s : StmtTree) (k : ℕ) (y w : List Sym) → IsKeyword keyword.If t → InParens c h x → IsStmt clauses s k y
+      → (is_open s ≡ true → is_keyword keyword.Else (head w) ≡ false) → Follows (Has (IsPlain clauses)) (t ∷ (x ++ y)) (else_part clauses e d turns sub sub_entry t c s) w
+  unfolding else_part
+  else_follows t c h x s k y w i p a shut = choose_follows (is_keyword keyword.Else)
+      (λ j. let closed : is_open s ≡ false = not_true (is_open s) (λ o. true≢false (sym j ∙ shut o)) in
+      take_word_follows j (λ u r is. bind_follows {S = Has (IsStmt clauses)} (subs r) (λ other z r2 parts b. pure_follows (an_else i p a closed is b.is))
+      (λ other z b. finished (StmtTree.if_else t.line t.at c s other) (an_else i p a closed is b.is))))
+      (λ j. pure_follows (has _ (an_if i p a)))
+
+  choice_follows : (t : Sym) (r : List Sym) → IsKeyword keyword.If t → Follows (Has (IsPlain clauses)) [] (choice clauses e d turns sub sub_entry) (t ∷ r)
+  unfolding choice
+  choice_follows t r i = take_follows (bind_follows {S = Has InParens} (condition_follows e turns r)
+      (λ c x r2 parts p. bind_is_follows {S = Has (IsStmt clauses)} (subs r2)
+      (λ s y r3 parts2 is a. else_follows t c p.height x s a.height y r3 i p.is a.is (subst (OnOk Shut) is (shuts.gives r2)))
+      (λ s y a. finished (StmtTree.if_only t.line t.at c s) (has _ (an_if i p.is a.is))))
+      (λ c x p. goes (semicolon e turns ∷ []) (StmtTree.if_only t.line t.at c (StmtTree.empty 0 0)) (has _ (an_if i p.is zero_stmt))))
+
+  -- ---- loops
+
+  while_follows : (t : Sym) (r : List Sym) → IsKeyword keyword.While t → Follows (Has (IsPlain clauses)) [] (while_loop clauses e d turns sub sub_entry) (t ∷ r)
+  unfolding while_loop
+  while_follows t r i = take_follows (bind_follows {S = Has InParens} (condition_follows e turns r)
+      (λ c x r2 parts p. bind_follows {S = Has (IsStmt clauses)} (subs r2) (λ s y r3 parts2 a. pure_follows (has _ (a_while i p.is a.is)))
+      (λ s y a. finished (StmtTree.while_loop t.line t.at c s) (has _ (a_while i p.is a.is))))
+      (λ c x p. goes (semicolon e turns ∷ []) (StmtTree.while_loop t.line t.at c (StmtTree.empty 0 0)) (has _ (a_while i p.is zero_stmt))))
+
+  do_as : {t : Sym} {s : StmtTree} {h : ℕ} {x : List Sym} {u : Sym} {c : Tree} {k : ℕ} {y : List Sym} {v : Sym} → IsKeyword keyword.Do t → IsStmt clauses s h x
+      → IsKeyword keyword.While u → InParens c k y → IsSign mark.Semicolon v
+      → Has (IsPlain clauses) (StmtTree.do_loop t.line t.at s c) (t ∷ (((x ++ (u ∷ [])) ++ y) ++ (v ∷ [])))
+  do_as {t} {s} {h} {x} {u} {c} {k} {y} {v} i a j p shuts = has_as _ (ap (λ q. t ∷ q) (sym (append_assoc (x ++ (u ∷ [])) y (v ∷ []) ∙ append_assoc x (u ∷ []) (y ++ (v ∷ []))))) (a_do i a j p shuts)
+
+  -- `( 0 )`
+  zero_parens : List Sym
+  zero_parens = sign_of mark.OpenParen ∷ (zero_sym ∷ (sign_of mark.CloseParen ∷ []))
+
+  zero_condition : InParens zero_tree 1 zero_parens
+  unfolding zero_parens
+  zero_condition = in_parens sign_of_is (zero_spelled full) sign_of_is
+
+  do_end : (t : Sym) (x : List Sym) (s : StmtTree) (h : ℕ) (u : Sym) → IsKeyword keyword.Do t → IsStmt clauses s h x → IsKeyword keyword.While u → Goes (Has (IsPlain clauses)) (t ∷ (x ++ (u ∷ [])))
+  do_end t x s h u i a j = goes (zero_parens ++ (sign_of mark.Semicolon ∷ [])) (StmtTree.do_loop t.line t.at s zero_tree)
+      (subst (Has (IsPlain clauses) (StmtTree.do_loop t.line t.at s zero_tree)) (ap (λ q. t ∷ q) (append_assoc (x ++ (u ∷ [])) zero_parens (sign_of mark.Semicolon ∷ []))) (do_as i a j zero_condition sign_of_is))
+
+  do_follows : (t : Sym) (r : List Sym) → IsKeyword keyword.Do t → Follows (Has (IsPlain clauses)) [] (do_loop clauses e d turns sub sub_entry) (t ∷ r)
+  unfolding do_loop
+  do_follows t r i = take_follows (bind_follows {S = Has (IsStmt clauses)} (subs r)
+      (λ s x r2 parts a. expect_word_follows (λ u r3 j. then_expect_follows {S = Has InParens} (condition_follows e turns r3)
+      (λ c y v r4 p shuts. pure_follows (do_as i a.is j p.is shuts)) (λ c y v p shuts. finished (StmtTree.do_loop t.line t.at s c) (do_as i a.is j p.is shuts)))
+      (λ u j. do_end t x s a.height u i a.is j))
+      (λ s x a. let g : Goes (Has (IsPlain clauses)) (t ∷ (x ++ (word_of keyword.While ∷ []))) = do_end t x s a.height (word_of keyword.While) i a.is word_of_is in
+      goes (word_of keyword.While ∷ g.after) g.value (subst (Has (IsPlain clauses) g.value) (ap (λ q. t ∷ q) (append_assoc x (word_of keyword.While ∷ []) g.after)) g.is)))
+
+  first_follows : (w : List Sym) → Follows (Has IsFirst) [] (first_part clauses e d turns sub sub_entry) w
+  unfolding first_part
+  first_follows w = choose_follows is_type_part (λ i. into_follows {S = Has (AreOne e turns)} (λ s u a. has _ (locals_first e turns a.is)) (one_locals_follows e turns (nat_lt 1 d) w))
+      (λ i. into_follows {S = Has (IsPart mark.Semicolon)} (λ s u a. has _ (first_act a.is)) (part_follows e turns mark.Semicolon w))
+
+  for_as : {t u : Sym} {a : StmtTree} {h : ℕ} {x : List Sym} {c : Option Tree} {k : ℕ} {y : List Sym} {b : StmtTree} {m : ℕ} {z : List Sym} {s : StmtTree} {n : ℕ} {q : List Sym}
+      → IsKeyword keyword.For t → IsSign mark.OpenParen u → IsFirst a h x → IsOptional mark.Semicolon c k y → IsPart mark.CloseParen b m z → IsStmt clauses s n q
+      → Has (IsPlain clauses) (StmtTree.for_loop t.line t.at a c b s) (t ∷ (u ∷ (((x ++ y) ++ z) ++ q)))
+  for_as {t} {u} {a} {h} {x} {c} {k} {y} {b} {m} {z} {s} {n} {q} i opens f o p body =
+      has_as _ (ap (λ v. t ∷ (u ∷ v)) (sym (append_assoc (x ++ y) z q ∙ append_assoc x y (z ++ q)))) (a_for i opens f o p body)
+
+  for_rest_follows : (t u : Sym) (x : List Sym) (a : StmtTree) (h : ℕ) (w : List Sym) → IsKeyword keyword.For t → IsSign mark.OpenParen u → IsFirst a h x
+      → Follows (Has (IsPlain clauses)) (t ∷ (u ∷ x)) (for_rest clauses e d turns sub sub_entry t a) w
+  unfolding for_rest semicolon
+  for_rest_follows t u x a h w i opens f = bind_follows {S = Has (IsOptional mark.Semicolon)} (optional_follows e turns mark.Semicolon w)
+      (λ c y r parts o. bind_follows {S = Has (IsPart mark.CloseParen)} (part_follows e turns mark.CloseParen r)
+      (λ b z r2 parts2 p. bind_follows {S = Has (IsStmt clauses)} (subs r2) (λ s q r3 parts3 body. pure_follows (for_as i opens f o.is p.is body.is))
+      (λ s q body. finished (StmtTree.for_loop t.line t.at a c b s) (for_as i opens f o.is p.is body.is)))
+      (λ b z p. goes (semicolon e turns ∷ []) (StmtTree.for_loop t.line t.at a c b (StmtTree.empty 0 0)) (for_as i opens f o.is p.is zero_stmt)))
+      (λ c y o. goes (sign_of mark.CloseParen ∷ (semicolon e turns ∷ [])) (StmtTree.for_loop t.line t.at a c (StmtTree.empty 0 0) (StmtTree.empty 0 0))
+      (subst (Has (IsPlain clauses) (StmtTree.for_loop t.line t.at a c (StmtTree.empty 0 0) (StmtTree.empty 0 0)))
+      (ap (λ v. t ∷ (u ∷ v)) (append_assoc (x ++ y) (sign_of mark.CloseParen ∷ []) (semicolon e turns ∷ []))) (for_as i opens f o.is (no_act sign_of_is) zero_stmt)))
+
+  for_end : (t u : Sym) (x : List Sym) (a : StmtTree) (h : ℕ) → IsKeyword keyword.For t → IsSign mark.OpenParen u → IsFirst a h x → Goes (Has (IsPlain clauses)) (t ∷ (u ∷ x))
+  unfolding semicolon
+  for_end t u x a h i opens f = goes (sign_of mark.Semicolon ∷ (sign_of mark.CloseParen ∷ (semicolon e turns ∷ []))) (StmtTree.for_loop t.line t.at a None (StmtTree.empty 0 0) (StmtTree.empty 0 0))
+      (has _ (a_for i opens f (left_out sign_of_is) (no_act sign_of_is) zero_stmt))
+
+  for_follows : (t : Sym) (r : List Sym) → IsKeyword keyword.For t → Follows (Has (IsPlain clauses)) [] (for_loop clauses e d turns sub sub_entry) (t ∷ r)
+  unfolding for_loop
+  for_follows t r i = take_follows (expect_follows (λ u r2 opens. bind_follows {S = Has IsFirst} (first_follows r2) (λ a x r3 parts f. for_rest_follows t u x a f.height r3 i opens f.is)
+      (λ a x f. for_end t u x a f.height i opens f.is))
+      (λ u opens. let g : Goes (Has (IsPlain clauses)) (t ∷ (u ∷ (sign_of mark.Semicolon ∷ []))) = for_end t u (sign_of mark.Semicolon ∷ []) (StmtTree.empty 0 0) 0 i opens (first_act (no_act sign_of_is)) in
+      goes (sign_of mark.Semicolon ∷ g.after) g.value g.is))
+
+  -- ---- jumps and lines of directives
+
+  jump_follows : (node : (line token : ℕ) → StmtTree) (t : Sym) (r : List Sym) → ((v : Sym) → IsSign mark.Semicolon v → IsPlain clauses (node t.line t.at) 0 (t ∷ (v ∷ [])))
+      → Follows (Has (IsPlain clauses)) [] (jump e turns node) (t ∷ r)
+  unfolding jump
+  jump_follows node t r is = take_follows (expect_follows (λ v r2 shuts. pure_follows (has _ (is v shuts))) (λ v shuts. finished (node t.line t.at) (has _ (is v shuts))))
+
+  return_follows : (t : Sym) (r : List Sym) → IsKeyword keyword.Return t → Follows (Has (IsPlain clauses)) [] (returned e turns) (t ∷ r)
+  unfolding returned
+  return_follows t r i = take_follows (bind_follows {S = Has (IsOptional mark.Semicolon)} (optional_follows e turns mark.Semicolon r)
+      (λ c x r2 parts o. pure_follows (has _ (a_return i o.is))) (λ c x o. finished (StmtTree.return_value t.line t.at c) (has _ (a_return i o.is))))
+
+  simd_follows : (n : ℕ) (t : Sym) (r : List Sym) → Is (kind.Simd n) t → Follows (Has (IsPlain clauses)) [] (simd_line clauses e d turns sub sub_entry n) (t ∷ r)
+  unfolding simd_line
+  simd_follows n t r i = take_follows (bind_follows {S = Has (IsStmt clauses)} (subs r)
+      (λ s x r2 parts a. pure_follows (has _ (a_simd i a.is))) (λ s x a. finished (StmtTree.simd t.line t.at (directive_at clauses t n) s) (has _ (a_simd i a.is))))
+
+  lost_follows : (n : ℕ) (t : Sym) (r : List Sym) → Is (kind.Simdfn n) t → Follows (Has (IsPlain clauses)) [] (lost_line clauses e d turns sub sub_entry n) (t ∷ r)
+  unfolding lost_line
+  lost_follows n t r i = take_follows (pure_follows (has _ (a_lost_line i)))
+
+  -- ---- statements
+
+  -- what surely has a statement in it
+  deeper_follows : {p : Parser StmtTree} (t : Sym) (r : List Sym) → Follows (Has (IsPlain clauses)) [] p (t ∷ r) → Goes (Has (IsPlain clauses)) (t ∷ [])
+      → Follows (Has (IsPlain clauses)) [] (deeper clauses e d turns sub sub_entry p) (t ∷ r)
+  deeper_follows t r h g = pick_follows (nat_lt 0 d) (λ _. h) (λ _. deep_follows g)
+
+  with_head : (t : Sym) (s : StmtTree) (h : ℕ) → IsPlain clauses s h (t ∷ (zero_parens ++ (semicolon e turns ∷ []))) → Goes (Has (IsPlain clauses)) (t ∷ [])
+  with_head t s h p = goes (zero_parens ++ (semicolon e turns ∷ [])) s (has h p)
+
+  kind_follows : (t : Sym) (r : List Sym) (k : SymKind) → t.kind ≡ k → Follows (Has (IsPlain clauses)) [] (plain_at clauses e d turns sub sub_entry (Some k)) (t ∷ r)
+  unfolding semicolon
+  kind_follows t r (kind.Sign mark.OpenBrace) i = block_follows t r (record { is = i })
+  kind_follows t r (kind.Keyword keyword.If) i = deeper_follows t r (choice_follows t r (record { is = i })) (with_head t _ _ (an_if (record { is = i }) zero_condition zero_stmt))
+  kind_follows t r (kind.Keyword keyword.While) i = deeper_follows t r (while_follows t r (record { is = i })) (with_head t _ _ (a_while (record { is = i }) zero_condition zero_stmt))
+  kind_follows t r (kind.Keyword keyword.Do) i = deeper_follows t r (do_follows t r (record { is = i }))
+      (let g : Goes (Has (IsPlain clauses)) (t ∷ (semicolon e turns ∷ (word_of keyword.While ∷ []))) = do_end t (semicolon e turns ∷ []) (StmtTree.empty 0 0) 0 (word_of keyword.While) (record { is = i }) zero_stmt word_of_is in
+      goes (semicolon e turns ∷ (word_of keyword.While ∷ g.after)) g.value g.is)
+  kind_follows t r (kind.Keyword keyword.For) i = deeper_follows t r (for_follows t r (record { is = i }))
+      (let g : Goes (Has (IsPlain clauses)) (t ∷ (sign_of mark.OpenParen ∷ (sign_of mark.Semicolon ∷ []))) = for_end t (sign_of mark.OpenParen) (sign_of mark.Semicolon ∷ []) (StmtTree.empty 0 0) 0 (record { is = i }) sign_of_is (first_act (no_act sign_of_is)) in
+      goes (sign_of mark.OpenParen ∷ (sign_of mark.Semicolon ∷ g.after)) g.value g.is)
+  kind_follows t r (kind.Keyword keyword.Break) i = jump_follows StmtTree.break_loop t r (λ v shuts. a_break (record { is = i }) shuts)
+  kind_follows t r (kind.Keyword keyword.Continue) i = jump_follows StmtTree.continue_loop t r (λ v shuts. a_continue (record { is = i }) shuts)
+  kind_follows t r (kind.Keyword keyword.Return) i = return_follows t r (record { is = i })
+  kind_follows t r (kind.Simd n) i = deeper_follows t r (simd_follows n t r (record { is = i }))
+      (goes (semicolon e turns ∷ []) (StmtTree.simd t.line t.at (directive_at clauses t n) (StmtTree.empty 0 0)) (has _ (a_simd (record { is = i }) zero_stmt)))
+  kind_follows t r (kind.Simdfn n) i = lost_follows n t r (record { is = i })
+  kind_follows t r _ i = into_follows {S = Has (IsPart mark.Semicolon)} (λ s u a. has _ (a_part a.is)) (part_follows e turns mark.Semicolon (t ∷ r))
+
+  plain_follows : (w : List Sym) → Follows (Has (IsPlain clauses)) [] (plain clauses e d turns sub sub_entry) w
+  unfolding plain
+  plain_follows [] = look_follows (plain_at clauses e d turns sub sub_entry) (into_follows {S = Has (IsPart mark.Semicolon)} (λ s u a. has _ (a_part a.is)) (part_follows e turns mark.Semicolon []))
+  plain_follows (t ∷ r) = look_follows (plain_at clauses e d turns sub sub_entry) (kind_follows t r t.kind refl)
+
+  one_statement_follows : (w : List Sym) → Follows (Has (IsStmt clauses)) [] (one_statement clauses e d turns sub sub_entry) w
+  unfolding one_statement
+  one_statement_follows w = choose_follows is_type_part
+      (λ i. into_follows {S = Has (AreOne e turns)} (λ s u a. has _ (locals_stmt e turns clauses a.is)) (one_locals_follows e turns (nat_lt 0 d) w))
+      (λ i. into_follows {S = Has (IsPlain clauses)} (λ s u a. has _ (a_plain a.is)) (plain_follows w))
+
+  one_entry_follows : (w : List Sym) → Follows (Has (IsEntry clauses)) [] (one_entry clauses e d turns sub sub_entry) w
+  unfolding one_entry
+  one_entry_follows w = choose_follows is_type_part
+      (λ i. into_follows {S = Has AreLocals} (λ list u a. has _ (locals_entry a.is)) (locals_follows e turns true w))
+      (λ i. bind_follows {S = Has (IsPlain clauses)} (plain_follows w) (λ s v r parts a. pure_follows (has _ (plain_entry a.is))) (λ s v a. finished (s ∷ []) (has _ (plain_entry a.is))))
