@@ -1,4 +1,5 @@
 mod Examples
 pub mod Signs
+pub mod Starts
 pub mod Closed
 pub mod Sound

@@ -26,6 +26,7 @@ use Rattle.vk_stmt_grammar.specs.Trees.{Clauses, directive_at, stmts_in, joined,
 use Rattle.vk_stmt_grammar.specs.Grammar
 use Rattle.vk_stmt_grammar.specs.Grammar.{InParens, in_parens, IsOptional, left_out, given, IsAct, an_assignment, a_step_before, a_step_behind, a_value, IsPart, no_act, an_act, IsNamed, bare, with_value, AreNamed, none_named, more_named, AreLocals, IsFirst, first_act, first_locals, IsPlain, a_block, a_part, an_if, an_if_else, a_while, a_do, a_for, a_break, a_continue, a_return, a_simd, a_lost_line, IsStmt, a_plain, some_locals, IsEntry, plain_entry, locals_entry, AreEntries, no_entries, more_entries}
 use Rattle.vk_stmt_grammar.specs.Reading.{is_not, no_level, cond, unary, condition, optional, step_before, assigned, stepped, valued, behind_operand, act, part, initial, named_local, local, later_local, local_list, locals, one_locals, jump, returned, block, else_part, choice, while_loop, do_loop, first_part, for_rest, for_loop, simd_line, lost_line, deeper, plain_at, plain, one_statement, one_entry, statement, entry}
+use Rattle.vk_stmt_grammar.proofs.Starts.{semicolon, empty_tree, empty_stmt, zero_parens, zero_condition, no_name, name_sym, if_goes, while_goes, do_goes, for_goes, simd_goes, no_stmt_follows, no_entry_follows}
 use Rattle.vk_stmt_grammar.proofs.Closed.{OnOk, Gives, Shut, statement_shuts}
 use Rattle.vk_stmt_grammar.proofs.Signs.{Has, has, has_as, take_word_follows, word_of, word_of_is, expect_word_follows, take_name_follows, take_assign_follows, take_step_follows, Parted, here_then_follows, not_true}
 
@@ -96,19 +97,12 @@ module _ (e turns : ℕ) where
   initialised i not_initial = bare i
   initialised i (an_initial is s) = with_value i is s
 
-  -- a name, the shortest declaration of one
-  no_name : NameId
-  no_name = record { 0 = 0 }
-
-  name_sym : Sym
-  name_sym = record { line = 0; at = 0; kind = kind.Name no_name }
-
+  -- the shortest declaration of a name
   named : (ty : Ty) (fixed : Bool) → Has (IsNamed ty fixed) (StmtTree.local 0 0 ty fixed no_name None) (name_sym ∷ [])
-  unfolding name_sym
   named ty fixed = has _ (bare (record { is = refl }))
 
   local_follows : (ty : Ty) (fixed : Bool) (w : List Sym) → Follows (Has (IsNamed ty fixed)) [] (local e turns ty fixed) w
-  unfolding local named_local name_sym
+  unfolding local named_local
   local_follows ty fixed w = choose_some_follows name_at
       (λ id i. take_name_follows i (λ t r is. bind_follows {S = Has IsInitial} (initial_follows r) (λ c x r2 parts a. pure_follows (has _ (initialised is a.is)))
       (λ c x a. finished (StmtTree.local t.line t.at ty fixed id c) (has _ (initialised is a.is)))))
@@ -118,7 +112,7 @@ module _ (e turns : ℕ) where
     later : {t : Sym} {s : StmtTree} {h : ℕ} {x : List Sym} → IsSign mark.Comma t → IsNamed ty fixed s h x → IsLater ty fixed s h (t ∷ x)
 
   later_follows : (room : Bool) (ty : Ty) (fixed : Bool) (w : List Sym) → is_sign mark.Comma (head w) ≡ true → Follows (Has (IsLater ty fixed)) [] (later_local e turns room ty fixed) w
-  unfolding later_local name_sym
+  unfolding later_local
   later_follows room ty fixed w i = pick_follows room
       (λ _. take_sign_follows i (λ t r is. tail_follows {S = Has (IsNamed ty fixed)} (local_follows ty fixed r) (λ s v d. has _ (later is d.is))))
       (λ _. sign_deep_follows i (λ t is. goes (name_sym ∷ []) (StmtTree.local 0 0 ty fixed no_name None) (has _ (later is (named ty fixed).is))))
@@ -148,12 +142,12 @@ module _ (e turns : ℕ) where
       go (names {x = x} {y = y} n l) = has_as _ (ap (λ q. v ++ q) (sym (append_assoc x y (z ∷ []))) ∙ sym (append_assoc v (x ++ y) (z ∷ []))) (Grammar.locals text.type n l shuts)
 
   pub locals_follows : (room : Bool) (w : List Sym) → Follows (Has AreLocals) [] (locals e turns room) w
-  unfolding locals name_sym
+  unfolding locals
   locals_follows room w = bind_follows {S = IsTypeText} (type_words_follows turns w)
       (λ c v r parts text. then_expect_follows {S = Has (AreNames (type_in c) (has_const c))} (local_list_follows room (type_in c) (has_const c) r)
       (λ list x z r2 l shuts. pure_follows (declared text l.is shuts)) (λ list x z l shuts. finished list (declared text l.is shuts)))
-      (λ c v text. goes (name_sym ∷ (sign_of mark.Semicolon ∷ [])) (StmtTree.local 0 0 (type_in c) (has_const c) no_name None ∷ [])
-      (subst (Has AreLocals (StmtTree.local 0 0 (type_in c) (has_const c) no_name None ∷ [])) (append_assoc v (name_sym ∷ []) (sign_of mark.Semicolon ∷ []))
+      (λ c v text. goes (name_sym ∷ (semicolon ∷ [])) (StmtTree.local 0 0 (type_in c) (has_const c) no_name None ∷ [])
+      (subst (Has AreLocals (StmtTree.local 0 0 (type_in c) (has_const c) no_name None ∷ [])) (append_assoc v (name_sym ∷ []) (semicolon ∷ []))
       (declared text (names (named (type_in c) (has_const c)).is none_named) sign_of_is)))
 
   type_parted : {c : List Sym} (y : List Sym) → IsType c → Parted (c ++ y)
@@ -181,22 +175,10 @@ module _ (e turns : ℕ) where
   locals_first : {s : StmtTree} {h : ℕ} {x : List Sym} → AreOne s h x → IsFirst s h x
   locals_first (one_of d) = first_locals d
 
-  -- ---- the shortest texts of a head
-
-  semicolon : Sym
-  semicolon = sign_of mark.Semicolon
-
-  empty_plain : (clauses : Clauses) → IsPlain clauses (StmtTree.empty 0 0) 0 (semicolon ∷ [])
-  unfolding semicolon
-  empty_plain clauses = a_part (no_act sign_of_is)
-
-  empty_stmt : (clauses : Clauses) → IsStmt clauses (StmtTree.empty 0 0) 0 (semicolon ∷ [])
-  empty_stmt clauses = a_plain (empty_plain clauses)
-
 module _ (clauses : Clauses) (e d turns : ℕ) (sub : Parser StmtTree) (sub_entry : Parser (List StmtTree)) (subs : (w : List Sym) → Follows (Has (IsStmt clauses)) [] sub w)
     (entries : (w : List Sym) → Follows (Has (IsEntry clauses)) [] sub_entry w) (shuts : Gives Shut sub) where
-  zero_stmt : IsStmt clauses (StmtTree.empty 0 0) 0 (semicolon e turns ∷ [])
-  zero_stmt = empty_stmt e turns clauses
+  zero_stmt : IsStmt clauses empty_tree 0 (semicolon ∷ [])
+  zero_stmt = empty_stmt clauses
 
   entries_follows : (w : List Sym) → Follows (λ lists. Has (AreEntries clauses) (joined lists)) [] (many turns (is_not mark.CloseBrace) sub_entry) w
   entries_follows w = many_follows (is_not mark.CloseBrace) sub_entry (has _ no_entries) (λ list lists x y a b. has _ (more_entries a.is b.is)) (λ w i. entries w) turns w
@@ -229,7 +211,7 @@ module _ (clauses : Clauses) (e d turns : ℕ) (sub : Parser StmtTree) (sub_entr
       (λ c x r2 parts p. bind_is_follows {S = Has (IsStmt clauses)} (subs r2)
       (λ s y r3 parts2 is a. else_follows t c p.height x s a.height y r3 i p.is a.is (subst (OnOk Shut) is (shuts.gives r2)))
       (λ s y a. finished (StmtTree.if_only t.line t.at c s) (has _ (an_if i p.is a.is))))
-      (λ c x p. goes (semicolon e turns ∷ []) (StmtTree.if_only t.line t.at c (StmtTree.empty 0 0)) (has _ (an_if i p.is zero_stmt))))
+      (λ c x p. goes (semicolon ∷ []) (StmtTree.if_only t.line t.at c empty_tree) (has _ (an_if i p.is zero_stmt))))
 
   -- ---- loops
 
@@ -238,24 +220,16 @@ module _ (clauses : Clauses) (e d turns : ℕ) (sub : Parser StmtTree) (sub_entr
   while_follows t r i = take_follows (bind_follows {S = Has InParens} (condition_follows e turns r)
       (λ c x r2 parts p. bind_follows {S = Has (IsStmt clauses)} (subs r2) (λ s y r3 parts2 a. pure_follows (has _ (a_while i p.is a.is)))
       (λ s y a. finished (StmtTree.while_loop t.line t.at c s) (has _ (a_while i p.is a.is))))
-      (λ c x p. goes (semicolon e turns ∷ []) (StmtTree.while_loop t.line t.at c (StmtTree.empty 0 0)) (has _ (a_while i p.is zero_stmt))))
+      (λ c x p. goes (semicolon ∷ []) (StmtTree.while_loop t.line t.at c empty_tree) (has _ (a_while i p.is zero_stmt))))
 
   do_as : {t : Sym} {s : StmtTree} {h : ℕ} {x : List Sym} {u : Sym} {c : Tree} {k : ℕ} {y : List Sym} {v : Sym} → IsKeyword keyword.Do t → IsStmt clauses s h x
       → IsKeyword keyword.While u → InParens c k y → IsSign mark.Semicolon v
       → Has (IsPlain clauses) (StmtTree.do_loop t.line t.at s c) (t ∷ (((x ++ (u ∷ [])) ++ y) ++ (v ∷ [])))
   do_as {t} {s} {h} {x} {u} {c} {k} {y} {v} i a j p shuts = has_as _ (ap (λ q. t ∷ q) (sym (append_assoc (x ++ (u ∷ [])) y (v ∷ []) ∙ append_assoc x (u ∷ []) (y ++ (v ∷ []))))) (a_do i a j p shuts)
 
-  -- `( 0 )`
-  zero_parens : List Sym
-  zero_parens = sign_of mark.OpenParen ∷ (zero_sym ∷ (sign_of mark.CloseParen ∷ []))
-
-  zero_condition : InParens zero_tree 1 zero_parens
-  unfolding zero_parens
-  zero_condition = in_parens sign_of_is (zero_spelled full) sign_of_is
-
   do_end : (t : Sym) (x : List Sym) (s : StmtTree) (h : ℕ) (u : Sym) → IsKeyword keyword.Do t → IsStmt clauses s h x → IsKeyword keyword.While u → Goes (Has (IsPlain clauses)) (t ∷ (x ++ (u ∷ [])))
-  do_end t x s h u i a j = goes (zero_parens ++ (sign_of mark.Semicolon ∷ [])) (StmtTree.do_loop t.line t.at s zero_tree)
-      (subst (Has (IsPlain clauses) (StmtTree.do_loop t.line t.at s zero_tree)) (ap (λ q. t ∷ q) (append_assoc (x ++ (u ∷ [])) zero_parens (sign_of mark.Semicolon ∷ []))) (do_as i a j zero_condition sign_of_is))
+  do_end t x s h u i a j = goes (zero_parens ++ (semicolon ∷ [])) (StmtTree.do_loop t.line t.at s zero_tree)
+      (subst (Has (IsPlain clauses) (StmtTree.do_loop t.line t.at s zero_tree)) (ap (λ q. t ∷ q) (append_assoc (x ++ (u ∷ [])) zero_parens (semicolon ∷ []))) (do_as i a j zero_condition sign_of_is))
 
   do_follows : (t : Sym) (r : List Sym) → IsKeyword keyword.Do t → Follows (Has (IsPlain clauses)) [] (do_loop clauses e d turns sub sub_entry) (t ∷ r)
   unfolding do_loop
@@ -279,27 +253,26 @@ module _ (clauses : Clauses) (e d turns : ℕ) (sub : Parser StmtTree) (sub_entr
 
   for_rest_follows : (t u : Sym) (x : List Sym) (a : StmtTree) (h : ℕ) (w : List Sym) → IsKeyword keyword.For t → IsSign mark.OpenParen u → IsFirst a h x
       → Follows (Has (IsPlain clauses)) (t ∷ (u ∷ x)) (for_rest clauses e d turns sub sub_entry t a) w
-  unfolding for_rest semicolon
+  unfolding for_rest
   for_rest_follows t u x a h w i opens f = bind_follows {S = Has (IsOptional mark.Semicolon)} (optional_follows e turns mark.Semicolon w)
       (λ c y r parts o. bind_follows {S = Has (IsPart mark.CloseParen)} (part_follows e turns mark.CloseParen r)
       (λ b z r2 parts2 p. bind_follows {S = Has (IsStmt clauses)} (subs r2) (λ s q r3 parts3 body. pure_follows (for_as i opens f o.is p.is body.is))
       (λ s q body. finished (StmtTree.for_loop t.line t.at a c b s) (for_as i opens f o.is p.is body.is)))
-      (λ b z p. goes (semicolon e turns ∷ []) (StmtTree.for_loop t.line t.at a c b (StmtTree.empty 0 0)) (for_as i opens f o.is p.is zero_stmt)))
-      (λ c y o. goes (sign_of mark.CloseParen ∷ (semicolon e turns ∷ [])) (StmtTree.for_loop t.line t.at a c (StmtTree.empty 0 0) (StmtTree.empty 0 0))
-      (subst (Has (IsPlain clauses) (StmtTree.for_loop t.line t.at a c (StmtTree.empty 0 0) (StmtTree.empty 0 0)))
-      (ap (λ v. t ∷ (u ∷ v)) (append_assoc (x ++ y) (sign_of mark.CloseParen ∷ []) (semicolon e turns ∷ []))) (for_as i opens f o.is (no_act sign_of_is) zero_stmt)))
+      (λ b z p. goes (semicolon ∷ []) (StmtTree.for_loop t.line t.at a c b empty_tree) (for_as i opens f o.is p.is zero_stmt)))
+      (λ c y o. goes (sign_of mark.CloseParen ∷ (semicolon ∷ [])) (StmtTree.for_loop t.line t.at a c empty_tree empty_tree)
+      (subst (Has (IsPlain clauses) (StmtTree.for_loop t.line t.at a c empty_tree empty_tree))
+      (ap (λ v. t ∷ (u ∷ v)) (append_assoc (x ++ y) (sign_of mark.CloseParen ∷ []) (semicolon ∷ []))) (for_as i opens f o.is (no_act sign_of_is) zero_stmt)))
 
   for_end : (t u : Sym) (x : List Sym) (a : StmtTree) (h : ℕ) → IsKeyword keyword.For t → IsSign mark.OpenParen u → IsFirst a h x → Goes (Has (IsPlain clauses)) (t ∷ (u ∷ x))
-  unfolding semicolon
-  for_end t u x a h i opens f = goes (sign_of mark.Semicolon ∷ (sign_of mark.CloseParen ∷ (semicolon e turns ∷ []))) (StmtTree.for_loop t.line t.at a None (StmtTree.empty 0 0) (StmtTree.empty 0 0))
+  for_end t u x a h i opens f = goes (semicolon ∷ (sign_of mark.CloseParen ∷ (semicolon ∷ []))) (StmtTree.for_loop t.line t.at a None empty_tree empty_tree)
       (has _ (a_for i opens f (left_out sign_of_is) (no_act sign_of_is) zero_stmt))
 
   for_follows : (t : Sym) (r : List Sym) → IsKeyword keyword.For t → Follows (Has (IsPlain clauses)) [] (for_loop clauses e d turns sub sub_entry) (t ∷ r)
   unfolding for_loop
   for_follows t r i = take_follows (expect_follows (λ u r2 opens. bind_follows {S = Has IsFirst} (first_follows r2) (λ a x r3 parts f. for_rest_follows t u x a f.height r3 i opens f.is)
       (λ a x f. for_end t u x a f.height i opens f.is))
-      (λ u opens. let g : Goes (Has (IsPlain clauses)) (t ∷ (u ∷ (sign_of mark.Semicolon ∷ []))) = for_end t u (sign_of mark.Semicolon ∷ []) (StmtTree.empty 0 0) 0 i opens (first_act (no_act sign_of_is)) in
-      goes (sign_of mark.Semicolon ∷ g.after) g.value g.is))
+      (λ u opens. let g : Goes (Has (IsPlain clauses)) (t ∷ (u ∷ (semicolon ∷ []))) = for_end t u (semicolon ∷ []) empty_tree 0 i opens (first_act (no_act sign_of_is)) in
+      goes (semicolon ∷ g.after) g.value g.is))
 
   -- ---- jumps and lines of directives
 
@@ -329,25 +302,16 @@ module _ (clauses : Clauses) (e d turns : ℕ) (sub : Parser StmtTree) (sub_entr
       → Follows (Has (IsPlain clauses)) [] (deeper clauses e d turns sub sub_entry p) (t ∷ r)
   deeper_follows t r h g = pick_follows (nat_lt 0 d) (λ _. h) (λ _. deep_follows g)
 
-  with_head : (t : Sym) (s : StmtTree) (h : ℕ) → IsPlain clauses s h (t ∷ (zero_parens ++ (semicolon e turns ∷ []))) → Goes (Has (IsPlain clauses)) (t ∷ [])
-  with_head t s h p = goes (zero_parens ++ (semicolon e turns ∷ [])) s (has h p)
-
   kind_follows : (t : Sym) (r : List Sym) (k : SymKind) → t.kind ≡ k → Follows (Has (IsPlain clauses)) [] (plain_at clauses e d turns sub sub_entry (Some k)) (t ∷ r)
-  unfolding semicolon
   kind_follows t r (kind.Sign mark.OpenBrace) i = block_follows t r (record { is = i })
-  kind_follows t r (kind.Keyword keyword.If) i = deeper_follows t r (choice_follows t r (record { is = i })) (with_head t _ _ (an_if (record { is = i }) zero_condition zero_stmt))
-  kind_follows t r (kind.Keyword keyword.While) i = deeper_follows t r (while_follows t r (record { is = i })) (with_head t _ _ (a_while (record { is = i }) zero_condition zero_stmt))
-  kind_follows t r (kind.Keyword keyword.Do) i = deeper_follows t r (do_follows t r (record { is = i }))
-      (let g : Goes (Has (IsPlain clauses)) (t ∷ (semicolon e turns ∷ (word_of keyword.While ∷ []))) = do_end t (semicolon e turns ∷ []) (StmtTree.empty 0 0) 0 (word_of keyword.While) (record { is = i }) zero_stmt word_of_is in
-      goes (semicolon e turns ∷ (word_of keyword.While ∷ g.after)) g.value g.is)
-  kind_follows t r (kind.Keyword keyword.For) i = deeper_follows t r (for_follows t r (record { is = i }))
-      (let g : Goes (Has (IsPlain clauses)) (t ∷ (sign_of mark.OpenParen ∷ (sign_of mark.Semicolon ∷ []))) = for_end t (sign_of mark.OpenParen) (sign_of mark.Semicolon ∷ []) (StmtTree.empty 0 0) 0 (record { is = i }) sign_of_is (first_act (no_act sign_of_is)) in
-      goes (sign_of mark.OpenParen ∷ (sign_of mark.Semicolon ∷ g.after)) g.value g.is)
+  kind_follows t r (kind.Keyword keyword.If) i = deeper_follows t r (choice_follows t r (record { is = i })) (if_goes clauses t (record { is = i }))
+  kind_follows t r (kind.Keyword keyword.While) i = deeper_follows t r (while_follows t r (record { is = i })) (while_goes clauses t (record { is = i }))
+  kind_follows t r (kind.Keyword keyword.Do) i = deeper_follows t r (do_follows t r (record { is = i })) (do_goes clauses t (record { is = i }))
+  kind_follows t r (kind.Keyword keyword.For) i = deeper_follows t r (for_follows t r (record { is = i })) (for_goes clauses t (record { is = i }))
   kind_follows t r (kind.Keyword keyword.Break) i = jump_follows StmtTree.break_loop t r (λ v shuts. a_break (record { is = i }) shuts)
   kind_follows t r (kind.Keyword keyword.Continue) i = jump_follows StmtTree.continue_loop t r (λ v shuts. a_continue (record { is = i }) shuts)
   kind_follows t r (kind.Keyword keyword.Return) i = return_follows t r (record { is = i })
-  kind_follows t r (kind.Simd n) i = deeper_follows t r (simd_follows n t r (record { is = i }))
-      (goes (semicolon e turns ∷ []) (StmtTree.simd t.line t.at (directive_at clauses t n) (StmtTree.empty 0 0)) (has _ (a_simd (record { is = i }) zero_stmt)))
+  kind_follows t r (kind.Simd n) i = deeper_follows t r (simd_follows n t r (record { is = i })) (simd_goes clauses n t (record { is = i }))
   kind_follows t r (kind.Simdfn n) i = lost_follows n t r (record { is = i })
   kind_follows t r _ i = into_follows {S = Has (IsPart mark.Semicolon)} (λ s u a. has _ (a_part a.is)) (part_follows e turns mark.Semicolon (t ∷ r))
 
@@ -367,3 +331,17 @@ module _ (clauses : Clauses) (e d turns : ℕ) (sub : Parser StmtTree) (sub_entr
   one_entry_follows w = choose_follows is_type_part
       (λ i. into_follows {S = Has AreLocals} (λ list u a. has _ (locals_entry a.is)) (locals_follows e turns true w))
       (λ i. bind_follows {S = Has (IsPlain clauses)} (plain_follows w) (λ s v r parts a. pure_follows (has _ (plain_entry a.is))) (λ s v a. finished (s ∷ []) (has _ (plain_entry a.is))))
+
+mutual
+  unfolding statement
+
+  -- What the reader tells of a statement follows the grammar.
+  pub statement_follows : (clauses : Clauses) (e turns d : ℕ) (w : List Sym) → Follows (Has (IsStmt clauses)) [] (statement clauses e turns d) w
+  statement_follows clauses e turns zero w = no_stmt_follows clauses w
+  statement_follows clauses e turns (suc d) w = one_statement_follows clauses e d turns (statement clauses e turns d) (entry clauses e turns d) (statement_follows clauses e turns d) (entry_follows clauses e turns d)
+      (statement_shuts clauses e turns d) w
+
+  pub entry_follows : (clauses : Clauses) (e turns d : ℕ) (w : List Sym) → Follows (Has (IsEntry clauses)) [] (entry clauses e turns d) w
+  entry_follows clauses e turns zero w = no_entry_follows clauses w
+  entry_follows clauses e turns (suc d) w = one_entry_follows clauses e d turns (statement clauses e turns d) (entry clauses e turns d) (statement_follows clauses e turns d) (entry_follows clauses e turns d)
+      (statement_shuts clauses e turns d) w
