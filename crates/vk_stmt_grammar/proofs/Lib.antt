@@ -3,3 +3,4 @@ pub mod Signs
 pub mod Starts
 pub mod Closed
 pub mod Sound
+pub mod Grown
