@@ -24,8 +24,8 @@ abbrev pub has : {A : Type 0} {R : A → ℕ → List Sym → Type 0} {a : A} {u
 has h d = record { height = h; is = d }
 
 -- the same text, written otherwise
-pub has_as : {A : Type 0} {R : A → ℕ → List Sym → Type 0} {a : A} {u v : List Sym} (h : ℕ) → u ≡ v → R a h u → Has R a v
-has_as {R = R} {a} h e d = record { height = h; is = subst (R a h) e d }
+pub as_text : {A : Type 0} {a : A} {h : ℕ} {u v : List Sym} (R : A → ℕ → List Sym → Type 0) → u ≡ v → R a h u → R a h v
+as_text {a = a} {h = h} R e d = subst (R a h) e d
 
 -- ---- keywords and names
 

@@ -28,7 +28,8 @@ use Rattle.vk_stmt_grammar.specs.Grammar.{InParens, in_parens, IsOptional, left_
 use Rattle.vk_stmt_grammar.specs.Reading.{is_not, no_level, cond, unary, condition, optional, step_before, assigned, stepped, valued, behind_operand, act, part, initial, named_local, local, later_local, local_list, locals, one_locals, jump, returned, block, else_part, choice, while_loop, do_loop, first_part, for_rest, for_loop, simd_line, lost_line, deeper, plain_at, plain, one_statement, one_entry, statement, entry}
 use Rattle.vk_stmt_grammar.proofs.Starts.{semicolon, empty_tree, empty_stmt, zero_parens, zero_condition, no_name, name_sym, if_goes, while_goes, do_goes, for_goes, simd_goes, no_stmt_follows, no_entry_follows}
 use Rattle.vk_stmt_grammar.proofs.Closed.{OnOk, Gives, Shut, statement_shuts}
-use Rattle.vk_stmt_grammar.proofs.Signs.{Has, has, has_as, take_word_follows, word_of, word_of_is, expect_word_follows, take_name_follows, take_assign_follows, take_step_follows, Parted, here_then_follows, not_true}
+use Rattle.vk_stmt_grammar.proofs.Forms.{an_assign, IsInitial, not_initial, an_initial, initialised, IsLater, later, later_joined, AreNames, names, declared, locals_parted, AreOne, one_of, locals_stmt, locals_first, an_else, do_as, for_as}
+use Rattle.vk_stmt_grammar.proofs.Signs.{Has, has, take_word_follows, word_of, word_of_is, expect_word_follows, take_name_follows, take_assign_follows, take_step_follows, Parted, here_then_follows, not_true}
 
 module _ (e turns : ℕ) where
   pub cond_follows : (w : List Sym) → Follows (Spelled full) [] (cond e turns) w
@@ -52,16 +53,12 @@ module _ (e turns : ℕ) where
 
   -- ---- assignments and expressions
 
-  an_assign : {t : Sym} {x : List Sym} {p a : Tree} {h k : ℕ} {o : Option BinOp} {u : Sym} {y : List Sym} → Spells (level 0) p h (t ∷ x) → IsAssign o u → Spells full a k y
-      → Has IsAct (StmtTree.assign t.line t.at o p a) (((t ∷ x) ++ (u ∷ [])) ++ y)
-  an_assign {t} {x} {p} {a} {h} {k} {o} {u} {y} s i s2 = has_as _ (sym (append_assoc (t ∷ x) (u ∷ []) y)) (an_assignment s i s2)
-
   behind_follows : (t : Sym) (x : List Sym) (p : Tall) (w : List Sym) → Spells (level 0) p.tree p.height (t ∷ x) → Follows (Has IsAct) (t ∷ x) (behind_operand e turns t.line t.at p) w
   unfolding behind_operand assigned stepped valued
   behind_follows t x p w s = look_follows (λ k. pick_some (assign_at k) (assigned e turns t.line t.at p) (pick_some (step_at k) (stepped e turns t.line t.at p) (valued e turns t.line t.at p)))
       (pick_some_follows (assign_at (head w))
       (λ o i. take_assign_follows i (λ u r is. bind_follows {S = Spelled full} (cond_follows r)
-      (λ a y r2 parts s2. pure_follows (an_assign s is s2)) (λ a y s2. finished (StmtTree.assign t.line t.at o p.tree a.tree) (an_assign s is s2))))
+      (λ a y r2 parts s2. pure_follows (has _ (an_assign s is s2))) (λ a y s2. finished (StmtTree.assign t.line t.at o p.tree a.tree) (has _ (an_assign s is s2)))))
       (λ _. pick_some_follows (step_at (head w))
       (λ o i. take_step_follows i (λ u r is. pure_follows (has _ (a_step_behind s is))))
       (λ _. seq_follows {S = Spelled full} (onwards_follows e turns (expression turns e) (λ s. expression_follows turns e s) t x p w s)
@@ -82,20 +79,11 @@ module _ (e turns : ℕ) where
 
   -- ---- declarations
 
-  data IsInitial : Option Tree → ℕ → List Sym → Type 0 where
-    not_initial : IsInitial None 0 []
-    an_initial : {t : Sym} {c : Tree} {h : ℕ} {x : List Sym} → IsSign mark.Assign t → Spells full c h x → IsInitial (Some c) h (t ∷ x)
-
   initial_follows : (w : List Sym) → Follows (Has IsInitial) [] (initial e turns) w
   unfolding initial
   initial_follows w = choose_follows (is_sign mark.Assign)
       (λ i. take_sign_follows i (λ t r is. bind_follows {S = Spelled full} (cond_follows r) (λ a x r2 parts s. pure_follows (has _ (an_initial is s))) (λ a x s. finished (Some a.tree) (has _ (an_initial is s)))))
       (λ i. pure_follows (has _ not_initial))
-
-  initialised : {ty : Ty} {fixed : Bool} {id : NameId} {t : Sym} {c : Option Tree} {h : ℕ} {x : List Sym} → Is (kind.Name id) t → IsInitial c h x
-      → IsNamed ty fixed (StmtTree.local t.line t.at ty fixed id c) h (t ∷ x)
-  initialised i not_initial = bare i
-  initialised i (an_initial is s) = with_value i is s
 
   -- the shortest declaration of a name
   named : (ty : Ty) (fixed : Bool) → Has (IsNamed ty fixed) (StmtTree.local 0 0 ty fixed no_name None) (name_sym ∷ [])
@@ -108,72 +96,33 @@ module _ (e turns : ℕ) where
       (λ c x a. finished (StmtTree.local t.line t.at ty fixed id c) (has _ (initialised is a.is)))))
       (λ i. refuse_follows (goes (name_sym ∷ []) (StmtTree.local 0 0 ty fixed no_name None) (named ty fixed)))
 
-  data IsLater (ty : Ty) (fixed : Bool) : StmtTree → ℕ → List Sym → Type 0 where
-    later : {t : Sym} {s : StmtTree} {h : ℕ} {x : List Sym} → IsSign mark.Comma t → IsNamed ty fixed s h x → IsLater ty fixed s h (t ∷ x)
-
   later_follows : (room : Bool) (ty : Ty) (fixed : Bool) (w : List Sym) → is_sign mark.Comma (head w) ≡ true → Follows (Has (IsLater ty fixed)) [] (later_local e turns room ty fixed) w
   unfolding later_local
   later_follows room ty fixed w i = pick_follows room
       (λ _. take_sign_follows i (λ t r is. tail_follows {S = Has (IsNamed ty fixed)} (local_follows ty fixed r) (λ s v d. has _ (later is d.is))))
       (λ _. sign_deep_follows i (λ t is. goes (name_sym ∷ []) (StmtTree.local 0 0 ty fixed no_name None) (has _ (later is (named ty fixed).is))))
 
-  later_joined : (ty : Ty) (fixed : Bool) (s : StmtTree) (list : List StmtTree) (x y : List Sym) → Has (IsLater ty fixed) s x → Has (AreNamed ty fixed) list y → Has (AreNamed ty fixed) (s ∷ list) (x ++ y)
-  later_joined ty fixed s list x y a b = go a.is
-    where
-      go : {h : ℕ} {x : List Sym} → IsLater ty fixed s h x → Has (AreNamed ty fixed) (s ∷ list) (x ++ y)
-      go (later is d) = has _ (more_named is d b.is)
-
-  data AreNames (ty : Ty) (fixed : Bool) : List StmtTree → ℕ → List Sym → Type 0 where
-    names : {s : StmtTree} {h : ℕ} {list : List StmtTree} {k : ℕ} {x y : List Sym} → IsNamed ty fixed s h x → AreNamed ty fixed list k y → AreNames ty fixed (s ∷ list) (max h k) (x ++ y)
-
   local_list_follows : (room : Bool) (ty : Ty) (fixed : Bool) (w : List Sym) → Follows (Has (AreNames ty fixed)) [] (local_list e turns room ty fixed) w
   unfolding local_list
   local_list_follows room ty fixed w = bind_follows {S = Has (IsNamed ty fixed)} (local_follows ty fixed w)
       (λ s x r parts d. bind_follows {S = Has (AreNamed ty fixed)}
-      (many_follows (is_sign mark.Comma) (later_local e turns room ty fixed) (has _ none_named) (later_joined ty fixed) (later_follows room ty fixed) turns r)
+      (many_follows (is_sign mark.Comma) (later_local e turns room ty fixed) (has _ none_named) (λ s list x y a b. has _ (later_joined a.is b.is)) (later_follows room ty fixed) turns r)
       (λ list y r2 parts2 l. pure_follows (has _ (names d.is l.is))) (λ list y l. finished (s ∷ list) (has _ (names d.is l.is))))
       (λ s x d. goes [] (s ∷ []) (has _ (names d.is none_named)))
-
-  declared : {c v : List Sym} {list : List StmtTree} {h : ℕ} {x : List Sym} {z : Sym} → IsTypeText c v → AreNames (type_in c) (has_const c) list h x → IsSign mark.Semicolon z
-      → Has AreLocals list ((v ++ x) ++ (z ∷ []))
-  declared {c} {v} {list} {h} {x} {z} text d shuts = go (subst (λ q. AreNames (type_in q) (has_const q) list h x) text.same d)
-    where
-      go : {h : ℕ} {list : List StmtTree} {x : List Sym} → AreNames (type_in v) (has_const v) list h x → Has AreLocals list ((v ++ x) ++ (z ∷ []))
-      go (names {x = x} {y = y} n l) = has_as _ (ap (λ q. v ++ q) (sym (append_assoc x y (z ∷ []))) ∙ sym (append_assoc v (x ++ y) (z ∷ []))) (Grammar.locals text.type n l shuts)
 
   pub locals_follows : (room : Bool) (w : List Sym) → Follows (Has AreLocals) [] (locals e turns room) w
   unfolding locals
   locals_follows room w = bind_follows {S = IsTypeText} (type_words_follows turns w)
       (λ c v r parts text. then_expect_follows {S = Has (AreNames (type_in c) (has_const c))} (local_list_follows room (type_in c) (has_const c) r)
-      (λ list x z r2 l shuts. pure_follows (declared text l.is shuts)) (λ list x z l shuts. finished list (declared text l.is shuts)))
+      (λ list x z r2 l shuts. pure_follows (has _ (declared text l.is shuts))) (λ list x z l shuts. finished list (has _ (declared text l.is shuts))))
       (λ c v text. goes (name_sym ∷ (semicolon ∷ [])) (StmtTree.local 0 0 (type_in c) (has_const c) no_name None ∷ [])
       (subst (Has AreLocals (StmtTree.local 0 0 (type_in c) (has_const c) no_name None ∷ [])) (append_assoc v (name_sym ∷ []) (semicolon ∷ []))
-      (declared text (names (named (type_in c) (has_const c)).is none_named) sign_of_is)))
-
-  type_parted : {c : List Sym} (y : List Sym) → IsType c → Parted (c ++ y)
-  unfolding words_of
-  type_parted y t = go t.parts t.has
-    where
-      go : {c : List Sym} → AreTypeParts c → has_words (words_of c) ≡ true → Parted (c ++ y)
-      go no_parts h = absurd (true≢false (sym h))
-      go (a_part {t = t} {rest = rest} p d) h = record { first = t; others = rest ++ y; parts = refl }
-
-  locals_parted : {list : List StmtTree} {h : ℕ} {x : List Sym} → AreLocals list h x → Parted x
-  locals_parted (Grammar.locals {x = x} {y = y} {v = v} type n l shuts) = type_parted (x ++ (y ++ (v ∷ []))) type
-
-  data AreOne : StmtTree → ℕ → List Sym → Type 0 where
-    one_of : {list : List StmtTree} {h : ℕ} {x : List Sym} → AreLocals list h x → AreOne (single (line_at x) (number_at x) list) h x
+      (has _ (declared text (names (named (type_in c) (has_const c)).is none_named) sign_of_is))))
 
   one_locals_follows : (room : Bool) (w : List Sym) → Follows (Has AreOne) [] (one_locals e turns room) w
   unfolding one_locals
   one_locals_follows room w = here_then_follows {S = Has AreLocals} (λ l k list. pure (single l k list)) (locals_follows room w) (λ list v d. locals_parted d.is)
       (λ list v r d. pure_follows (has _ (one_of d.is))) (λ list v d. finished (single (line_at v) (number_at v) list) (has _ (one_of d.is)))
-
-  locals_stmt : (clauses : Clauses) {s : StmtTree} {h : ℕ} {x : List Sym} → AreOne s h x → IsStmt clauses s h x
-  locals_stmt clauses (one_of d) = some_locals d
-
-  locals_first : {s : StmtTree} {h : ℕ} {x : List Sym} → AreOne s h x → IsFirst s h x
-  locals_first (one_of d) = first_locals d
 
 module _ (clauses : Clauses) (e d turns : ℕ) (sub : Parser StmtTree) (sub_entry : Parser (List StmtTree)) (subs : (w : List Sym) → Follows (Has (IsStmt clauses)) [] sub w)
     (entries : (w : List Sym) → Follows (Has (IsEntry clauses)) [] sub_entry w) (shuts : Gives Shut sub) where
@@ -190,19 +139,13 @@ module _ (clauses : Clauses) (e d turns : ℕ) (sub : Parser StmtTree) (sub_entr
 
   -- ---- selection
 
-  an_else : {t : Sym} {c : Tree} {h : ℕ} {x : List Sym} {s : StmtTree} {k : ℕ} {y : List Sym} {u : Sym} {other : StmtTree} {m : ℕ} {z : List Sym}
-      → IsKeyword keyword.If t → InParens c h x → IsStmt clauses s k y → is_open s ≡ false → IsKeyword keyword.Else u → IsStmt clauses other m z
-      → Has (IsPlain clauses) (StmtTree.if_else t.line t.at c s other) (t ∷ (((x ++ y) ++ (u ∷ [])) ++ z))
-  an_else {t} {c} {h} {x} {s} {k} {y} {u} {other} {m} {z} i p a shut j b =
-      has_as _ (ap (λ q. t ∷ q) (sym (append_assoc (x ++ y) (u ∷ []) z ∙ append_assoc x y (u ∷ z)))) (an_if_else i p a shut j b)
-
   else_follows : (t : Sym) (c : Tree) (h : ℕ) (x : List Sym) (s : StmtTree) (k : ℕ) (y w : List Sym) → IsKeyword keyword.If t → InParens c h x → IsStmt clauses s k y
       → (is_open s ≡ true → is_keyword keyword.Else (head w) ≡ false) → Follows (Has (IsPlain clauses)) (t ∷ (x ++ y)) (else_part clauses e d turns sub sub_entry t c s) w
   unfolding else_part
   else_follows t c h x s k y w i p a shut = choose_follows (is_keyword keyword.Else)
       (λ j. let closed : is_open s ≡ false = not_true (is_open s) (λ o. true≢false (sym j ∙ shut o)) in
-      take_word_follows j (λ u r is. bind_follows {S = Has (IsStmt clauses)} (subs r) (λ other z r2 parts b. pure_follows (an_else i p a closed is b.is))
-      (λ other z b. finished (StmtTree.if_else t.line t.at c s other) (an_else i p a closed is b.is))))
+      take_word_follows j (λ u r is. bind_follows {S = Has (IsStmt clauses)} (subs r) (λ other z r2 parts b. pure_follows (has _ (an_else i p a closed is b.is)))
+      (λ other z b. finished (StmtTree.if_else t.line t.at c s other) (has _ (an_else i p a closed is b.is)))))
       (λ j. pure_follows (has _ (an_if i p a)))
 
   choice_follows : (t : Sym) (r : List Sym) → IsKeyword keyword.If t → Follows (Has (IsPlain clauses)) [] (choice clauses e d turns sub sub_entry) (t ∷ r)
@@ -222,46 +165,35 @@ module _ (clauses : Clauses) (e d turns : ℕ) (sub : Parser StmtTree) (sub_entr
       (λ s y a. finished (StmtTree.while_loop t.line t.at c s) (has _ (a_while i p.is a.is))))
       (λ c x p. goes (semicolon ∷ []) (StmtTree.while_loop t.line t.at c empty_tree) (has _ (a_while i p.is zero_stmt))))
 
-  do_as : {t : Sym} {s : StmtTree} {h : ℕ} {x : List Sym} {u : Sym} {c : Tree} {k : ℕ} {y : List Sym} {v : Sym} → IsKeyword keyword.Do t → IsStmt clauses s h x
-      → IsKeyword keyword.While u → InParens c k y → IsSign mark.Semicolon v
-      → Has (IsPlain clauses) (StmtTree.do_loop t.line t.at s c) (t ∷ (((x ++ (u ∷ [])) ++ y) ++ (v ∷ [])))
-  do_as {t} {s} {h} {x} {u} {c} {k} {y} {v} i a j p shuts = has_as _ (ap (λ q. t ∷ q) (sym (append_assoc (x ++ (u ∷ [])) y (v ∷ []) ∙ append_assoc x (u ∷ []) (y ++ (v ∷ []))))) (a_do i a j p shuts)
-
   do_end : (t : Sym) (x : List Sym) (s : StmtTree) (h : ℕ) (u : Sym) → IsKeyword keyword.Do t → IsStmt clauses s h x → IsKeyword keyword.While u → Goes (Has (IsPlain clauses)) (t ∷ (x ++ (u ∷ [])))
   do_end t x s h u i a j = goes (zero_parens ++ (semicolon ∷ [])) (StmtTree.do_loop t.line t.at s zero_tree)
-      (subst (Has (IsPlain clauses) (StmtTree.do_loop t.line t.at s zero_tree)) (ap (λ q. t ∷ q) (append_assoc (x ++ (u ∷ [])) zero_parens (semicolon ∷ []))) (do_as i a j zero_condition sign_of_is))
+      (subst (Has (IsPlain clauses) (StmtTree.do_loop t.line t.at s zero_tree)) (ap (λ q. t ∷ q) (append_assoc (x ++ (u ∷ [])) zero_parens (semicolon ∷ []))) (has _ (do_as i a j zero_condition sign_of_is)))
 
   do_follows : (t : Sym) (r : List Sym) → IsKeyword keyword.Do t → Follows (Has (IsPlain clauses)) [] (do_loop clauses e d turns sub sub_entry) (t ∷ r)
   unfolding do_loop
   do_follows t r i = take_follows (bind_follows {S = Has (IsStmt clauses)} (subs r)
       (λ s x r2 parts a. expect_word_follows (λ u r3 j. then_expect_follows {S = Has InParens} (condition_follows e turns r3)
-      (λ c y v r4 p shuts. pure_follows (do_as i a.is j p.is shuts)) (λ c y v p shuts. finished (StmtTree.do_loop t.line t.at s c) (do_as i a.is j p.is shuts)))
+      (λ c y v r4 p shuts. pure_follows (has _ (do_as i a.is j p.is shuts))) (λ c y v p shuts. finished (StmtTree.do_loop t.line t.at s c) (has _ (do_as i a.is j p.is shuts))))
       (λ u j. do_end t x s a.height u i a.is j))
       (λ s x a. let g : Goes (Has (IsPlain clauses)) (t ∷ (x ++ (word_of keyword.While ∷ []))) = do_end t x s a.height (word_of keyword.While) i a.is word_of_is in
       goes (word_of keyword.While ∷ g.after) g.value (subst (Has (IsPlain clauses) g.value) (ap (λ q. t ∷ q) (append_assoc x (word_of keyword.While ∷ []) g.after)) g.is)))
 
   first_follows : (w : List Sym) → Follows (Has IsFirst) [] (first_part clauses e d turns sub sub_entry) w
   unfolding first_part
-  first_follows w = choose_follows is_type_part (λ i. into_follows {S = Has (AreOne e turns)} (λ s u a. has _ (locals_first e turns a.is)) (one_locals_follows e turns (nat_lt 1 d) w))
+  first_follows w = choose_follows is_type_part (λ i. into_follows {S = Has (AreOne)} (λ s u a. has _ (locals_first a.is)) (one_locals_follows e turns (nat_lt 1 d) w))
       (λ i. into_follows {S = Has (IsPart mark.Semicolon)} (λ s u a. has _ (first_act a.is)) (part_follows e turns mark.Semicolon w))
-
-  for_as : {t u : Sym} {a : StmtTree} {h : ℕ} {x : List Sym} {c : Option Tree} {k : ℕ} {y : List Sym} {b : StmtTree} {m : ℕ} {z : List Sym} {s : StmtTree} {n : ℕ} {q : List Sym}
-      → IsKeyword keyword.For t → IsSign mark.OpenParen u → IsFirst a h x → IsOptional mark.Semicolon c k y → IsPart mark.CloseParen b m z → IsStmt clauses s n q
-      → Has (IsPlain clauses) (StmtTree.for_loop t.line t.at a c b s) (t ∷ (u ∷ (((x ++ y) ++ z) ++ q)))
-  for_as {t} {u} {a} {h} {x} {c} {k} {y} {b} {m} {z} {s} {n} {q} i opens f o p body =
-      has_as _ (ap (λ v. t ∷ (u ∷ v)) (sym (append_assoc (x ++ y) z q ∙ append_assoc x y (z ++ q)))) (a_for i opens f o p body)
 
   for_rest_follows : (t u : Sym) (x : List Sym) (a : StmtTree) (h : ℕ) (w : List Sym) → IsKeyword keyword.For t → IsSign mark.OpenParen u → IsFirst a h x
       → Follows (Has (IsPlain clauses)) (t ∷ (u ∷ x)) (for_rest clauses e d turns sub sub_entry t a) w
   unfolding for_rest
   for_rest_follows t u x a h w i opens f = bind_follows {S = Has (IsOptional mark.Semicolon)} (optional_follows e turns mark.Semicolon w)
       (λ c y r parts o. bind_follows {S = Has (IsPart mark.CloseParen)} (part_follows e turns mark.CloseParen r)
-      (λ b z r2 parts2 p. bind_follows {S = Has (IsStmt clauses)} (subs r2) (λ s q r3 parts3 body. pure_follows (for_as i opens f o.is p.is body.is))
-      (λ s q body. finished (StmtTree.for_loop t.line t.at a c b s) (for_as i opens f o.is p.is body.is)))
-      (λ b z p. goes (semicolon ∷ []) (StmtTree.for_loop t.line t.at a c b empty_tree) (for_as i opens f o.is p.is zero_stmt)))
+      (λ b z r2 parts2 p. bind_follows {S = Has (IsStmt clauses)} (subs r2) (λ s q r3 parts3 body. pure_follows (has _ (for_as i opens f o.is p.is body.is)))
+      (λ s q body. finished (StmtTree.for_loop t.line t.at a c b s) (has _ (for_as i opens f o.is p.is body.is))))
+      (λ b z p. goes (semicolon ∷ []) (StmtTree.for_loop t.line t.at a c b empty_tree) (has _ (for_as i opens f o.is p.is zero_stmt))))
       (λ c y o. goes (sign_of mark.CloseParen ∷ (semicolon ∷ [])) (StmtTree.for_loop t.line t.at a c empty_tree empty_tree)
       (subst (Has (IsPlain clauses) (StmtTree.for_loop t.line t.at a c empty_tree empty_tree))
-      (ap (λ v. t ∷ (u ∷ v)) (append_assoc (x ++ y) (sign_of mark.CloseParen ∷ []) (semicolon ∷ []))) (for_as i opens f o.is (no_act sign_of_is) zero_stmt)))
+      (ap (λ v. t ∷ (u ∷ v)) (append_assoc (x ++ y) (sign_of mark.CloseParen ∷ []) (semicolon ∷ []))) (has _ (for_as i opens f o.is (no_act sign_of_is) zero_stmt))))
 
   for_end : (t u : Sym) (x : List Sym) (a : StmtTree) (h : ℕ) → IsKeyword keyword.For t → IsSign mark.OpenParen u → IsFirst a h x → Goes (Has (IsPlain clauses)) (t ∷ (u ∷ x))
   for_end t u x a h i opens f = goes (semicolon ∷ (sign_of mark.CloseParen ∷ (semicolon ∷ []))) (StmtTree.for_loop t.line t.at a None empty_tree empty_tree)
@@ -323,7 +255,7 @@ module _ (clauses : Clauses) (e d turns : ℕ) (sub : Parser StmtTree) (sub_entr
   one_statement_follows : (w : List Sym) → Follows (Has (IsStmt clauses)) [] (one_statement clauses e d turns sub sub_entry) w
   unfolding one_statement
   one_statement_follows w = choose_follows is_type_part
-      (λ i. into_follows {S = Has (AreOne e turns)} (λ s u a. has _ (locals_stmt e turns clauses a.is)) (one_locals_follows e turns (nat_lt 0 d) w))
+      (λ i. into_follows {S = Has (AreOne)} (λ s u a. has _ (locals_stmt a.is)) (one_locals_follows e turns (nat_lt 0 d) w))
       (λ i. into_follows {S = Has (IsPlain clauses)} (λ s u a. has _ (a_plain a.is)) (plain_follows w))
 
   one_entry_follows : (w : List Sym) → Follows (Has (IsEntry clauses)) [] (one_entry clauses e d turns sub sub_entry) w
