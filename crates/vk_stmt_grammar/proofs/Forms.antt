@@ -5,6 +5,7 @@ use Rattle.vk_ast.specs.declared.names.NameId.{NameId}
 use Rattle.vk_ast.specs.declared.expressions.BinOp.{BinOp}
 use Rattle.vk_ast.specs.Tree.{Tree}
 use Rattle.vk_ast.specs.Statements.{StmtTree}
+use Rattle.vk_tokens.specs.declared.tokens.Mark.{Mark}
 use Rattle.vk_tokens.specs.declared.tokens.Mark.TheVariants as mark
 use Rattle.vk_grammar.specs.declared.symbols.Sym.{Sym}
 use Rattle.vk_grammar.specs.declared.symbols.SymKind.TheVariants as kind
@@ -12,11 +13,12 @@ use Rattle.vk_grammar.specs.declared.symbols.Keyword.TheVariants as keyword
 use Rattle.vk_grammar.specs.Symbols.{line_at, number_at, Is, IsSign}
 use Rattle.vk_grammar.specs.Types.{IsType, type_in, AreTypeParts, no_parts, a_part, words_of, has_words}
 use Rattle.vk_grammar.specs.Grammar.{level, full, Spells}
+use Rattle.vk_grammar.proofs.Starts.{Starts, spelled_starts}
 use Rattle.vk_grammar.proofs.Sound.{IsTypeText}
 use Rattle.vk_stmt_grammar.specs.Words.{IsKeyword, has_const, IsAssign}
 use Rattle.vk_stmt_grammar.specs.Trees.{Clauses, single, is_open}
 use Rattle.vk_stmt_grammar.specs.Grammar
-use Rattle.vk_stmt_grammar.specs.Grammar.{InParens, IsOptional, IsAct, an_assignment, IsPart, IsNamed, bare, with_value, AreNamed, more_named, AreLocals, IsFirst, first_locals, IsPlain, an_if_else, a_do, a_for, IsStmt, some_locals}
+use Rattle.vk_stmt_grammar.specs.Grammar.{InParens, IsOptional, IsAct, an_assignment, a_step_before, a_step_behind, a_value, IsPart, no_act, an_act, IsNamed, bare, with_value, AreNamed, more_named, AreLocals, IsFirst, first_locals, IsPlain, a_block, a_part, an_if, an_if_else, a_while, a_do, a_for, a_break, a_continue, a_return, a_simd, a_lost_line, IsStmt, a_plain, some_locals, IsEntry, plain_entry, locals_entry}
 use Rattle.vk_stmt_grammar.proofs.Signs.{as_text, Parted}
 
 pub an_assign : {t : Sym} {x : List Sym} {p a : Tree} {h k : ℕ} {o : Option BinOp} {u : Sym} {y : List Sym} → Spells (level 0) p h (t ∷ x) → IsAssign o u → Spells full a k y
@@ -93,3 +95,46 @@ module _ {clauses : Clauses} where
       → IsPlain clauses (StmtTree.for_loop t.line t.at a c b s) (max h (max k (max m n))) (t ∷ (u ∷ (((x ++ y) ++ z) ++ q)))
   for_as {t} {u} {x = x} {y = y} {z = z} {q = q} i opens f o p body =
       as_text (IsPlain clauses) (ap (λ v. t ∷ (u ∷ v)) (sym (append_assoc (x ++ y) z q ∙ append_assoc x y (z ++ q)))) (a_for i opens f o p body)
+
+-- ---- no text is empty
+
+pub starts_parted : {x : List Sym} → Starts x → Parted x
+starts_parted s = record { first = s.first; others = s.others; parts = s.parts }
+
+pub more_parted : {x : List Sym} (y : List Sym) → Parted x → Parted (x ++ y)
+more_parted y p = record { first = p.first; others = p.others ++ y; parts = ap (λ z. z ++ y) p.parts }
+
+pub act_parted : {s : StmtTree} {h : ℕ} {x : List Sym} → IsAct s h x → Parted x
+act_parted (an_assignment {t = t} {y = y} d i e) = more_parted (t ∷ y) (starts_parted (spelled_starts d))
+act_parted (a_step_before {t = t} {x = x} i d) = record { first = t; others = x; parts = refl }
+act_parted (a_step_behind {t = t} d i) = more_parted (t ∷ []) (starts_parted (spelled_starts d))
+act_parted (a_value d) = starts_parted (spelled_starts d)
+
+pub part_parted : {m : Mark} {s : StmtTree} {h : ℕ} {x : List Sym} → IsPart m s h x → Parted x
+part_parted (no_act {v = v} i) = record { first = v; others = []; parts = refl }
+part_parted (an_act {v = v} a i) = more_parted (v ∷ []) (act_parted a)
+
+abbrev begins_with : (t : Sym) (x : List Sym) → Parted (t ∷ x)
+begins_with t x = record { first = t; others = x; parts = refl }
+
+pub plain_parted : {clauses : Clauses} {s : StmtTree} {h : ℕ} {x : List Sym} → IsPlain clauses s h x → Parted x
+plain_parted (a_block {u = u} i d j) = begins_with u _
+plain_parted (a_part d) = part_parted d
+plain_parted (an_if {t = t} i p d) = begins_with t _
+plain_parted (an_if_else {t = t} i p d shut j b) = begins_with t _
+plain_parted (a_while {t = t} i p d) = begins_with t _
+plain_parted (a_do {t = t} i d j p k) = begins_with t _
+plain_parted (a_for {t = t} i j f c p d) = begins_with t _
+plain_parted (a_break {t = t} i j) = begins_with t _
+plain_parted (a_continue {t = t} i j) = begins_with t _
+plain_parted (a_return {t = t} i d) = begins_with t _
+plain_parted (a_simd {t = t} i d) = begins_with t _
+plain_parted (a_lost_line {t = t} i) = begins_with t _
+
+pub entry_parted : {clauses : Clauses} {list : List StmtTree} {h : ℕ} {x : List Sym} → IsEntry clauses list h x → Parted x
+entry_parted (plain_entry d) = plain_parted d
+entry_parted (locals_entry d) = locals_parted d
+
+pub stmt_parted : {clauses : Clauses} {s : StmtTree} {h : ℕ} {x : List Sym} → IsStmt clauses s h x → Parted x
+stmt_parted (a_plain d) = plain_parted d
+stmt_parted (some_locals d) = locals_parted d

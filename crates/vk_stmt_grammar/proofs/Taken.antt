@@ -88,28 +88,35 @@ tail_takes {S = S} {R} {c} {p} {w} h into = record { takes = λ l. into_taken S 
 
 -- ---- one after the other
 
-module _ (turns : ℕ) {A B : Type 0} (S : A → List Sym → Type 0) (R : B → List Sym → Type 0) (i c : List Sym) (f : A → Parser B) (w : List Sym)
-    (next : (a : A) (v r : List Sym) → w ≡ v ++ r → S a (i ++ v) → Takes turns R (c ++ v) (f a) r) (l : length w < turns) where
-  on_second : (v r : List Sym) → w ≡ v ++ r → (o : Result (B × List Sym) Fault) → Taken R (c ++ v) r o → Taken R c w o
-  on_second v r parts (Ok read) t = record { gone = v ++ t.gone; parts = parts ∙ ap (λ z. v ++ z) t.parts ∙ sym (append_assoc v t.gone read.1); is = subst (R read.0) (append_assoc c v t.gone) t.is }
-  on_second v r parts (Err (Syntax n)) t = tt
-  on_second v r parts (Err (Deep n)) t = tt
-  on_second v r parts (Err Spent) t = t
+module _ {B : Type 0} (R : B → List Sym → Type 0) (c w v r : List Sym) (parts : w ≡ v ++ r) where
+  on_second : (o : Result (B × List Sym) Fault) → Taken R (c ++ v) r o → Taken R c w o
+  on_second (Ok read) t = record { gone = v ++ t.gone; parts = parts ∙ ap (λ z. v ++ z) t.parts ∙ sym (append_assoc v t.gone read.1); is = subst (R read.0) (append_assoc c v t.gone) t.is }
+  on_second (Err (Syntax n)) t = tt
+  on_second (Err (Deep n)) t = tt
+  on_second (Err Spent) t = t
 
-  on_first : (o : Result (A × List Sym) Fault) → Taken S i w o → Taken R c w (then_do o f)
-  on_first (Ok read) t = on_second t.gone read.1 t.parts (f read.0 read.1) ((next read.0 t.gone read.1 t.parts t.is).takes (omega (arith, l, ap length t.parts, length-append t.gone read.1)))
-  on_first (Err (Syntax n)) t = tt
-  on_first (Err (Deep n)) t = tt
-  on_first (Err Spent) t = t
+module _ (turns : ℕ) {A B : Type 0} (S : A → List Sym → Type 0) (R : B → List Sym → Type 0) (i c : List Sym) (p : Parser A) (f : A → Parser B) (w : List Sym)
+    (next : (a : A) (v r : List Sym) → w ≡ v ++ r → p w ≡ Ok (a, r) → S a (i ++ v) → Takes turns R (c ++ v) (f a) r) (l : length w < turns) where
+  on_first : (o : Result (A × List Sym) Fault) → p w ≡ o → Taken S i w o → Taken R c w (then_do o f)
+  on_first (Ok read) e t = on_second R c w t.gone read.1 t.parts (f read.0 read.1)
+      ((next read.0 t.gone read.1 t.parts e t.is).takes (omega (arith, l, ap length t.parts, length-append t.gone read.1)))
+  on_first (Err (Syntax n)) e t = tt
+  on_first (Err (Deep n)) e t = tt
+  on_first (Err Spent) e t = t
 
 pub bind_takes : {turns : ℕ} {A B : Type 0} {S : A → List Sym → Type 0} {R : B → List Sym → Type 0} {c : List Sym} {p : Parser A} {f : A → Parser B} {w : List Sym}
     → Takes turns S [] p w → ((a : A) (v r : List Sym) → w ≡ v ++ r → S a v → Takes turns R (c ++ v) (f a) r) → Takes turns R c (p >>= f) w
-bind_takes {turns} {S = S} {R} {c} {p} {f} {w} h next = record { takes = λ l. on_first turns S R [] c f w next l (p w) (h.takes l) }
+bind_takes {turns} {S = S} {R} {c} {p} {f} {w} h next = record { takes = λ l. on_first turns S R [] c p f w (λ a v r parts e. next a v r parts) l (p w) refl (h.takes l) }
 
 -- the same where the first reader too stands behind `c`
 pub seq_takes : {turns : ℕ} {A B : Type 0} {S : A → List Sym → Type 0} {R : B → List Sym → Type 0} {c : List Sym} {p : Parser A} {f : A → Parser B} {w : List Sym}
     → Takes turns S c p w → ((a : A) (v r : List Sym) → w ≡ v ++ r → S a (c ++ v) → Takes turns R (c ++ v) (f a) r) → Takes turns R c (p >>= f) w
-seq_takes {turns} {S = S} {R} {c} {p} {f} {w} h next = record { takes = λ l. on_first turns S R c c f w next l (p w) (h.takes l) }
+seq_takes {turns} {S = S} {R} {c} {p} {f} {w} h next = record { takes = λ l. on_first turns S R c c p f w (λ a v r parts e. next a v r parts) l (p w) refl (h.takes l) }
+
+-- as `bind_takes`, where how it goes on rests on what the first reader leaves
+pub bind_is_takes : {turns : ℕ} {A B : Type 0} {S : A → List Sym → Type 0} {R : B → List Sym → Type 0} {c : List Sym} {p : Parser A} {f : A → Parser B} {w : List Sym}
+    → Takes turns S [] p w → ((a : A) (v r : List Sym) → w ≡ v ++ r → p w ≡ Ok (a, r) → S a v → Takes turns R (c ++ v) (f a) r) → Takes turns R c (p >>= f) w
+bind_is_takes {turns} {S = S} {R} {c} {p} {f} {w} h next = record { takes = λ l. on_first turns S R [] c p f w next l (p w) refl (h.takes l) }
 
 pub take_takes : {turns : ℕ} {B : Type 0} {R : B → List Sym → Type 0} {c : List Sym} {f : Sym → Parser B} {t : Sym} {r : List Sym}
     → Takes turns R (c ++ (t ∷ [])) (f t) r → Takes turns R c (take >>= f) (t ∷ r)
