@@ -7,3 +7,4 @@ pub mod Sound
 pub mod Grown
 pub mod Taken
 pub mod Limits
+pub mod Parts
