@@ -8,3 +8,4 @@ pub mod Grown
 pub mod Taken
 pub mod Limits
 pub mod Parts
+pub mod Whole

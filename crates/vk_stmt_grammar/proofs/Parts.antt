@@ -22,7 +22,7 @@ use Rattle.vk_grammar.proofs.Equations
 use Rattle.vk_grammar.proofs.Climb.{conditional_onwards, onwards_end}
 use Rattle.vk_grammar.proofs.Whole.{reads_whole}
 use Rattle.vk_stmt_grammar.specs.Words.{IsKeyword, is_keyword, name_at, has_const, assign_of, assign_at, IsAssign, step_of, step_at, IsStep}
-use Rattle.vk_stmt_grammar.specs.Trees.{single, unit_at, levels_of}
+use Rattle.vk_stmt_grammar.specs.Trees.{stmts_in, single, unit_at, levels_of, all_levels}
 use Rattle.vk_stmt_grammar.specs.Grammar
 use Rattle.vk_stmt_grammar.specs.Grammar.{InParens, in_parens, IsOptional, left_out, given, IsAct, an_assignment, a_step_before, a_step_behind, a_value, IsPart, no_act, an_act, IsNamed, bare, with_value, AreNamed, none_named, more_named, AreLocals, IsFirst, first_act, first_locals}
 use Rattle.vk_stmt_grammar.specs.Reading.{cond, unary, condition, optional, step_before, assigned, stepped, valued, behind_operand, act, part, initial, named_local, local, later_local, local_list, locals, one_locals}
@@ -330,6 +330,9 @@ pub alone_by : (room : Bool) {list : List StmtTree} {h : ℕ} {x : List Sym} (l 
 alone_by room l k (Grammar.locals type n none_named shuts) i = λ f. refl
 alone_by room l k (Grammar.locals type n (more_named j m rest) shuts) i = λ f. absurd (omega (arith, i f, named_level n))
 
--- all in the list are of one level
+pub locals_levels : {list : List StmtTree} {h : ℕ} {x : List Sym} → AreLocals list h x → 1 ≤ all_levels (stmts_in list)
+locals_levels (Grammar.locals type n rest shuts) = omega (arith, named_level n)
+
+-- where there is room there may be several
 pub room_alone : {list : List StmtTree} {h : ℕ} {x : List Sym} → AreLocals list h x → Alone 0 0 true list
 room_alone (Grammar.locals type n rest shuts) = λ f. absurd (true≢false f)
