@@ -9,3 +9,5 @@ pub mod Taken
 pub mod Limits
 pub mod Parts
 pub mod Whole
+pub mod Readers
+pub mod Theorem

@@ -11,7 +11,7 @@
 --
 -- Each name that is declared is a statement of its own. A statement has the line and the number of its first token, a
 -- local variable those of its name. An `else` belongs to the nearest `if`.
-use Rattle.std.specs.Prelude.{◌≡◌, ℕ, max, Bool, false, List, [], ◌∷◌, ◌++◌, Option, Some, None}
+use Rattle.std.specs.Prelude.{◌≡◌, ◌≤◌, ℕ, max, Bool, false, List, [], ◌∷◌, ◌++◌, Option, Some, None}
 use Rattle.vk_types.specs.declared.types.Ty.{Ty}
 use Rattle.vk_ast.specs.declared.names.NameId.{NameId}
 use Rattle.vk_ast.specs.declared.expressions.BinOp.{BinOp}
@@ -26,7 +26,7 @@ use Rattle.vk_grammar.specs.Symbols.{line_at, number_at, Is, IsSign}
 use Rattle.vk_grammar.specs.Types.{IsType, type_in}
 use Rattle.vk_grammar.specs.Grammar.{level, full, Spells}
 use Rattle.vk_stmt_grammar.specs.Words.{IsKeyword, has_const, IsAssign, IsStep}
-use Rattle.vk_stmt_grammar.specs.Trees.{Clauses, directive_at, stmts_in, single, unit_at, is_open}
+use Rattle.vk_stmt_grammar.specs.Trees.{Clauses, directive_at, stmts_in, single, unit_at, is_open, levels_of}
 
 -- `( cond )`
 pub data InParens : Tree → (height : ℕ) → List Sym → Type 0 where
@@ -120,3 +120,10 @@ mutual
     no_entries : AreEntries clauses [] 0 []
     more_entries : {list : List StmtTree} {h : ℕ} {rest : List StmtTree} {k : ℕ} {x y : List Sym} → IsEntry clauses list h x → AreEntries clauses rest k y
         → AreEntries clauses (list ++ rest) (max h k) (x ++ y)
+
+-- The texts of whole statements; and those with expressions of a height of at most `e` and at most `d` levels of statements.
+abbrev pub IsStatement : Clauses → List Sym → Type 0
+IsStatement clauses u = (s : StmtTree) × ((h : ℕ) × IsStmt clauses s h u)
+
+abbrev pub IsStatementWithin : Clauses → (e d : ℕ) → List Sym → Type 0
+IsStatementWithin clauses e d u = (s : StmtTree) × ((h : ℕ) × (IsStmt clauses s h u × ((h ≤ e) × (levels_of s ≤ d))))

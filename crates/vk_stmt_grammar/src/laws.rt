@@ -1,9 +1,29 @@
 //! What the reader of whole statements tells, against the grammar.
 
-ghost use Rattle.std.specs.Prelude.{◌≡◌, ◌≤◌, ◌<◌, ℕ, List, [], length, Ok, Err};
+ghost use Rattle.std.specs.Prelude.{◌≡◌, ◌≤◌, ◌<◌, ℕ, suc, List, [], length, Ok, Err};
+ghost use Rattle.vk_ast.specs.Statements.{StmtTree};
 ghost use Rattle.vk_grammar.specs.declared.symbols.Sym.{Sym};
 ghost use Rattle.vk_grammar.specs.Parser.{Syntax, Deep, Spent};
-ghost use Rattle.vk_stmt_grammar.specs.Trees.{Clauses};
+ghost use Rattle.vk_grammar.specs.Texts.{IsPlace, IsDeepPlace};
+ghost use Rattle.vk_stmt_grammar.specs.Trees.{Clauses, levels_of};
+ghost use Rattle.vk_stmt_grammar.specs.Grammar.{IsStmt, IsStatement, IsStatementWithin};
 ghost use Rattle.vk_stmt_grammar.specs.Reading.{whole_statement};
 
-pub fn nothing_yet() {}
+/// A whole statement is read exactly where the grammar has a tree for the tokens that has at most `d` levels of statements
+/// and expressions of a height of at most `e + 1` (C17 6.8). Else the fault is at its place: C5 at the first token that no
+/// text of the grammar has there, C6 at a token up to which some text goes, each such text being beyond a limit. One turn
+/// more than there are tokens is enough.
+pub fn whole_statements()
+    ensures found { (clauses : Clauses) (e turns d : ℕ) (ts : List Sym) (s : StmtTree) (r : List Sym)
+        → whole_statement clauses e turns d ts ≡ Ok (s, r)
+        → (h : ℕ) × (IsStmt clauses s h ts × ((h ≤ suc e) × (levels_of s ≤ d))) }
+    ensures only { (clauses : Clauses) (e turns d : ℕ) (ts : List Sym) (s : StmtTree) (h : ℕ) → IsStmt clauses s h ts
+        → h ≤ suc e → levels_of s ≤ d → length ts < turns → whole_statement clauses e turns d ts ≡ Ok (s, []) }
+    ensures refused { (clauses : Clauses) (e turns d : ℕ) (ts : List Sym) (n : ℕ)
+        → whole_statement clauses e turns d ts ≡ Err (Syntax n) → IsPlace (IsStatement clauses) ts n }
+    ensures deep { (clauses : Clauses) (e turns d : ℕ) (ts : List Sym) (n : ℕ)
+        → whole_statement clauses e turns d ts ≡ Err (Deep n)
+        → IsDeepPlace (IsStatement clauses) (IsStatementWithin clauses (suc e) d) ts n }
+    ensures ends { (clauses : Clauses) (e turns d : ℕ) (ts : List Sym) → length ts < turns
+        → whole_statement clauses e turns d ts ≡ Err Spent → ⊥ }
+{}
