@@ -18,7 +18,7 @@ use Rattle.vk_grammar.proofs.Sound.{IsTypeText}
 use Rattle.vk_stmt_grammar.specs.Words.{IsKeyword, has_const, IsAssign}
 use Rattle.vk_stmt_grammar.specs.Trees.{Clauses, single, is_open}
 use Rattle.vk_stmt_grammar.specs.Grammar
-use Rattle.vk_stmt_grammar.specs.Grammar.{InParens, IsOptional, IsAct, an_assignment, a_step_before, a_step_behind, a_value, IsPart, no_act, an_act, IsNamed, bare, with_value, AreNamed, more_named, AreLocals, IsFirst, first_locals, IsPlain, a_block, a_part, an_if, an_if_else, a_while, a_do, a_for, a_break, a_continue, a_return, a_simd, a_lost_line, IsStmt, a_plain, some_locals, IsEntry, plain_entry, locals_entry}
+use Rattle.vk_stmt_grammar.specs.Grammar.{InParens, IsOptional, IsAct, an_assignment, a_step_before, a_step_behind, a_value, IsPart, no_act, an_act, IsNamed, bare, with_value, AreNamed, more_named, AreLocals, IsFirst, first_locals, IsBlock, in_braces, IsPlain, a_block, a_part, an_if, an_if_else, a_while, a_do, a_for, a_break, a_continue, a_return, a_simd, a_lost_line, IsStmt, a_plain, some_locals, IsEntry, plain_entry, locals_entry}
 use Rattle.vk_stmt_grammar.proofs.Signs.{as_text, Parted}
 
 pub an_assign : {t : Sym} {x : List Sym} {p a : Tree} {h k : ℕ} {o : Option BinOp} {u : Sym} {y : List Sym} → Spells (level 0) p h (t ∷ x) → IsAssign o u → Spells full a k y
@@ -118,7 +118,7 @@ abbrev begins_with : (t : Sym) (x : List Sym) → Parted (t ∷ x)
 begins_with t x = record { first = t; others = x; parts = refl }
 
 pub plain_parted : {clauses : Clauses} {s : StmtTree} {h : ℕ} {x : List Sym} → IsPlain clauses s h x → Parted x
-plain_parted (a_block {u = u} i d j) = begins_with u _
+plain_parted (a_block (in_braces {u = u} i d j)) = begins_with u _
 plain_parted (a_part d) = part_parted d
 plain_parted (an_if {t = t} i p d) = begins_with t _
 plain_parted (an_if_else {t = t} i p d shut j b) = begins_with t _

@@ -19,7 +19,7 @@ use Rattle.vk_grammar.proofs.Grown.{IsCut, Grows, Room, same_grows, bind_grows, 
 use Rattle.vk_grammar.proofs.Climb.{onwards_grow}
 use Rattle.vk_stmt_grammar.specs.Words.{is_keyword, name_at, has_const, assign_at, step_at, step_of, begins_here, is_stmt_start}
 use Rattle.vk_stmt_grammar.specs.Trees.{Clauses, single}
-use Rattle.vk_stmt_grammar.specs.Reading.{is_not, no_level, cond, unary, condition, optional, step_before, assigned, stepped, valued, behind_operand, act, part, initial, named_local, local, later_local, local_list, locals, one_locals, jump, returned, block, else_part, choice, while_loop, do_loop, first_part, for_rest, for_loop, simd_line, lost_line, deeper, plain_at, plain, one_statement, one_entry, statement, entry}
+use Rattle.vk_stmt_grammar.specs.Reading.{is_not, no_level, cond, unary, condition, optional, step_before, assigned, stepped, valued, behind_operand, act, part, initial, named_local, local, later_local, local_list, locals, one_locals, jump, returned, block, else_part, choice, while_loop, do_loop, first_part, for_rest, for_loop, simd_line, lost_line, deeper, plain_at, plain, one_statement, one_entry, statement, entry, body}
 
 -- whether several names may stand
 pub record Rooms (deep b c : Bool) : Type 0 where
@@ -263,3 +263,6 @@ mutual
   entry_grows clauses deep e f turns more_turns heights i (suc d) (suc g) room = one_entry_grows clauses deep e f turns more_turns heights i d g (lower_room room)
       (statement clauses e turns d) (statement clauses f more_turns g) (entry clauses e turns d) (entry clauses f more_turns g)
       (statement_grows clauses deep e f turns more_turns heights i d g (lower_room room)) (entry_grows clauses deep e f turns more_turns heights i d g (lower_room room))
+
+pub body_grows : (clauses : Clauses) (deep : Bool) (e f turns more_turns : ℕ) → Room deep e f → turns ≤ more_turns → (d g : ℕ) → Room deep d g → Grows deep (body clauses e turns d) (body clauses f more_turns g)
+body_grows clauses deep e f turns more_turns heights i d g room = choose_grows (is_sign mark.OpenBrace) (statement_grows clauses deep e f turns more_turns heights i d g room) same_grows

@@ -17,12 +17,14 @@ use Rattle.vk_grammar.specs.Parser.{Parser, pure, ◌>>=◌, pick_some, many}
 use Rattle.vk_grammar.specs.Reading.{type_words, expression}
 use Rattle.vk_grammar.proofs.Starts.{Starts, Spelled, spelled_starts}
 use Rattle.vk_grammar.proofs.Sound.{IsTypeText, type_words_follows, expression_follows}
+use Rattle.vk_grammar.proofs.Signs.{sign_kind}
+use Rattle.vk_stmt_grammar.proofs.Sound.{brace_no_type}
 use Rattle.vk_grammar.proofs.Heights.{Within, Any, Keeps, expression_keeps, type_words_keep}
 use Rattle.vk_grammar.proofs.Climb.{onwards_follows, onwards_keep}
 use Rattle.vk_stmt_grammar.specs.Words.{IsKeyword, is_keyword, name_at, has_const, assign_at, step_at, is_stmt_start}
 use Rattle.vk_stmt_grammar.specs.Trees.{Clauses, directive_at, stmts_in, joined, single, unit_at, is_open, levels_of, all_levels}
-use Rattle.vk_stmt_grammar.specs.Grammar.{InParens, in_parens, IsOptional, left_out, given, IsAct, a_step_before, a_step_behind, a_value, IsPart, no_act, an_act, IsNamed, AreNamed, none_named, more_named, AreLocals, IsFirst, first_act, IsPlain, a_block, a_part, an_if, a_while, a_break, a_continue, a_return, a_simd, a_lost_line, IsStmt, a_plain, IsEntry, plain_entry, locals_entry, AreEntries, no_entries, more_entries}
-use Rattle.vk_stmt_grammar.specs.Reading.{is_not, no_level, cond, unary, condition, optional, step_before, assigned, stepped, valued, behind_operand, act, part, initial, named_local, local, later_local, local_list, locals, one_locals, jump, returned, block, else_part, choice, while_loop, do_loop, first_part, for_rest, for_loop, simd_line, lost_line, deeper, plain_at, plain, one_statement, one_entry, statement, entry}
+use Rattle.vk_stmt_grammar.specs.Grammar.{InParens, in_parens, IsOptional, left_out, given, IsAct, a_step_before, a_step_behind, a_value, IsPart, no_act, an_act, IsNamed, AreNamed, none_named, more_named, AreLocals, IsFirst, first_act, IsBlock, in_braces, IsPlain, a_block, a_part, an_if, a_while, a_break, a_continue, a_return, a_simd, a_lost_line, IsStmt, a_plain, IsEntry, plain_entry, locals_entry, AreEntries, no_entries, more_entries}
+use Rattle.vk_stmt_grammar.specs.Reading.{is_not, no_level, cond, unary, condition, optional, step_before, assigned, stepped, valued, behind_operand, act, part, initial, named_local, local, later_local, local_list, locals, one_locals, jump, returned, block, else_part, choice, while_loop, do_loop, first_part, for_rest, for_loop, simd_line, lost_line, deeper, plain_at, plain, one_statement, one_entry, statement, entry, body}
 use Rattle.vk_stmt_grammar.proofs.Signs.{Parted, not_true}
 use Rattle.vk_stmt_grammar.proofs.Forms.{an_assign, IsInitial, not_initial, an_initial, initialised, IsLater, later, later_joined, AreNames, names, declared, locals_parted, AreOne, one_of, locals_stmt, locals_first, an_else, do_as, for_as, starts_parted, entry_parted}
 use Rattle.vk_stmt_grammar.proofs.Closed.{OnOk, Gives, Shut, statement_shuts}
@@ -213,9 +215,9 @@ module _ (clauses : Clauses) (e d turns : ℕ) (sub : Parser StmtTree) (sub_entr
   entries_take w = record { takes = λ l. (many_takes {S = Fits (IsEntry clauses) (AllAt d) (suc e)} {L = Entries} (is_not mark.CloseBrace) sub_entry (fit 0 no_entries (omega arith) (omega arith))
       (λ list lists x y a b. fit _ (more_entries a.is b.is) (omega (arith, a.most, b.most)) (all_joined d list (joined lists) a.fits b.fits)) (λ list x a. entry_parted a.is) (λ w i. entries w) turns w l).takes l }
 
-  block_takes : (t : Sym) (r : List Sym) → IsSign mark.OpenBrace t → Takes turns Plain [] (block clauses e d turns sub sub_entry) (t ∷ r)
+  block_takes : (t : Sym) (r : List Sym) → IsSign mark.OpenBrace t → Takes turns (Fits (IsBlock clauses) (At (suc d)) (suc e)) [] (block clauses e d turns sub sub_entry) (t ∷ r)
   unfolding block
-  block_takes t r opens = take_takes (then_expect_takes {S = Entries} (entries_take r) (λ lists x v r2 a shuts. pure_takes (fit _ (a_block opens a.is shuts) a.most (omega (arith, a.fits)))))
+  block_takes t r opens = take_takes (then_expect_takes {S = Entries} (entries_take r) (λ lists x v r2 a shuts. pure_takes (fit _ (in_braces opens a.is shuts) a.most (omega (arith, a.fits)))))
 
   else_takes : (t : Sym) (c : Tree) (h : ℕ) (x : List Sym) (s : StmtTree) (k : ℕ) (y w : List Sym) → IsKeyword keyword.If t → InParens c h x → h ≤ suc e → IsStmt clauses s k y → k ≤ suc e → levels_of s ≤ d
       → (is_open s ≡ true → is_keyword keyword.Else (head w) ≡ false) → Takes turns Plain (t ∷ (x ++ y)) (else_part clauses e d turns sub sub_entry t c s) w
@@ -281,7 +283,7 @@ module _ (clauses : Clauses) (e d turns : ℕ) (sub : Parser StmtTree) (sub_entr
   plain_part_takes w = into_takes {S = Fits (IsPart mark.Semicolon) (At 1) (suc e)} (λ s u a. fit _ (a_part a.is) a.most (omega (arith, a.fits))) (part_takes e turns mark.Semicolon w)
 
   kind_takes : (t : Sym) (r : List Sym) (k : SymKind) → t.kind ≡ k → Takes turns Plain [] (plain_at clauses e d turns sub sub_entry (Some k)) (t ∷ r)
-  kind_takes t r (kind.Sign mark.OpenBrace) i = block_takes t r (record { is = i })
+  kind_takes t r (kind.Sign mark.OpenBrace) i = into_takes {S = Fits (IsBlock clauses) (At (suc d)) (suc e)} (λ s u a. fit _ (a_block a.is) a.most a.fits) (block_takes t r (record { is = i }))
   kind_takes t r (kind.Keyword keyword.If) i = deeper_takes (λ _. choice_takes t r (record { is = i }))
   kind_takes t r (kind.Keyword keyword.While) i = deeper_takes (λ _. while_takes t r (record { is = i }))
   kind_takes t r (kind.Keyword keyword.Do) i = deeper_takes (λ _. do_takes t r (record { is = i }))
@@ -297,6 +299,11 @@ module _ (clauses : Clauses) (e d turns : ℕ) (sub : Parser StmtTree) (sub_entr
   unfolding plain
   plain_takes [] = look_takes (plain_at clauses e d turns sub sub_entry) (plain_part_takes [])
   plain_takes (t ∷ r) = look_takes (plain_at clauses e d turns sub sub_entry) (kind_takes t r t.kind refl)
+
+  block_here_takes : (t : Sym) (r : List Sym) → IsSign mark.OpenBrace t → Takes turns (Fits (IsBlock clauses) (At (suc d)) (suc e)) [] (one_statement clauses e d turns sub sub_entry) (t ∷ r)
+  unfolding one_statement plain
+  block_here_takes t r i = choose_takes is_type_part (λ j. absurd (true≢false (sym j ∙ brace_no_type i)))
+      (λ _. look_takes (plain_at clauses e d turns sub sub_entry) (subst (λ k. Takes turns (Fits (IsBlock clauses) (At (suc d)) (suc e)) [] (plain_at clauses e d turns sub sub_entry (Some k)) (t ∷ r)) (sym i.is) (block_takes t r i)))
 
   one_statement_takes : (w : List Sym) → Takes turns (Fits (IsStmt clauses) (At (suc d)) (suc e)) [] (one_statement clauses e d turns sub sub_entry) w
   unfolding one_statement
@@ -326,3 +333,16 @@ mutual
   entry_takes clauses e turns zero w = no_level_takes w
   entry_takes clauses e turns (suc d) w = one_entry_takes clauses e d turns (statement clauses e turns d) (entry clauses e turns d) (statement_takes clauses e turns d) (entry_takes clauses e turns d)
       (statement_shuts clauses e turns d) w
+
+-- ---- the block of a function
+
+braces_take : (clauses : Clauses) (e turns d : ℕ) (t : Sym) (r : List Sym) → IsSign mark.OpenBrace t → Takes turns (Fits (IsBlock clauses) (At d) (suc e)) [] (statement clauses e turns d) (t ∷ r)
+unfolding statement
+braces_take clauses e turns zero t r i = no_level_takes (t ∷ r)
+braces_take clauses e turns (suc d) t r i = block_here_takes clauses e d turns (statement clauses e turns d) (entry clauses e turns d) (statement_takes clauses e turns d) (entry_takes clauses e turns d)
+    (statement_shuts clauses e turns d) t r i
+
+pub body_takes : (clauses : Clauses) (e turns d : ℕ) (w : List Sym) → Takes turns (Fits (IsBlock clauses) (At d) (suc e)) [] (body clauses e turns d) w
+unfolding is_sign
+body_takes clauses e turns d [] = choose_takes (is_sign mark.OpenBrace) (λ i. absurd (true≢false (sym i))) (λ _. refuse_takes)
+body_takes clauses e turns d (t ∷ r) = choose_takes (is_sign mark.OpenBrace) (λ i. braces_take clauses e turns d t r (record { is = sign_kind mark.OpenBrace t.kind i })) (λ _. refuse_takes)

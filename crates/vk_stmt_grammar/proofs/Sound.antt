@@ -17,15 +17,15 @@ use Rattle.vk_grammar.specs.Grammar.{Tall, tall, level, full, Spells}
 use Rattle.vk_grammar.specs.Parser.{Parser, pure, ◌>>=◌, take, pick, pick_some, many}
 use Rattle.vk_grammar.specs.Reading.{type_words, expression}
 use Rattle.vk_grammar.proofs.Steps.{Follows, Goes, goes, finished, pure_follows, refuse_follows, deep_follows, pick_follows, pick_some_follows, look_follows, choose_follows, choose_some_follows, into_follows, bind_follows, bind_is_follows, seq_follows, take_follows, tail_follows, many_follows}
-use Rattle.vk_grammar.proofs.Signs.{sign_of, sign_of_is, take_sign_follows, sign_deep_follows, expect_follows, then_expect_follows}
+use Rattle.vk_grammar.proofs.Signs.{sign_kind, sign_of, sign_of_is, take_sign_follows, sign_deep_follows, expect_follows, then_expect_follows}
 use Rattle.vk_grammar.proofs.Starts.{Starts, spelled_starts, zero_sym, zero_tree, zero_tall, zero_spelled, in_sort, Spelled}
 use Rattle.vk_grammar.proofs.Sound.{here_bind_follows, IsTypeText, type_words_follows, expression_follows}
 use Rattle.vk_grammar.proofs.Climb.{onwards_follows}
-use Rattle.vk_stmt_grammar.specs.Words.{IsKeyword, is_keyword, name_at, has_const, assign_at, IsAssign, step_at, IsStep, is_stmt_start}
+use Rattle.vk_stmt_grammar.specs.Words.{IsKeyword, is_keyword, name_at, has_const, assign_at, IsAssign, step_at, IsStep, begins_here, is_stmt_start}
 use Rattle.vk_stmt_grammar.specs.Trees.{Clauses, directive_at, stmts_in, joined, single, unit_at, is_open}
 use Rattle.vk_stmt_grammar.specs.Grammar
-use Rattle.vk_stmt_grammar.specs.Grammar.{InParens, in_parens, IsOptional, left_out, given, IsAct, an_assignment, a_step_before, a_step_behind, a_value, IsPart, no_act, an_act, IsNamed, bare, with_value, AreNamed, none_named, more_named, AreLocals, IsFirst, first_act, first_locals, IsPlain, a_block, a_part, an_if, an_if_else, a_while, a_do, a_for, a_break, a_continue, a_return, a_simd, a_lost_line, IsStmt, a_plain, some_locals, IsEntry, plain_entry, locals_entry, AreEntries, no_entries, more_entries}
-use Rattle.vk_stmt_grammar.specs.Reading.{is_not, no_level, cond, unary, condition, optional, step_before, assigned, stepped, valued, behind_operand, act, part, initial, named_local, local, later_local, local_list, locals, one_locals, jump, returned, block, else_part, choice, while_loop, do_loop, first_part, for_rest, for_loop, simd_line, lost_line, deeper, plain_at, plain, one_statement, one_entry, statement, entry}
+use Rattle.vk_stmt_grammar.specs.Grammar.{InParens, in_parens, IsOptional, left_out, given, IsAct, an_assignment, a_step_before, a_step_behind, a_value, IsPart, no_act, an_act, IsNamed, bare, with_value, AreNamed, none_named, more_named, AreLocals, IsFirst, first_act, first_locals, IsBlock, in_braces, IsPlain, a_block, a_part, an_if, an_if_else, a_while, a_do, a_for, a_break, a_continue, a_return, a_simd, a_lost_line, IsStmt, a_plain, some_locals, IsEntry, plain_entry, locals_entry, AreEntries, no_entries, more_entries}
+use Rattle.vk_stmt_grammar.specs.Reading.{is_not, no_level, cond, unary, condition, optional, step_before, assigned, stepped, valued, behind_operand, act, part, initial, named_local, local, later_local, local_list, locals, one_locals, jump, returned, block, else_part, choice, while_loop, do_loop, first_part, for_rest, for_loop, simd_line, lost_line, deeper, plain_at, plain, one_statement, one_entry, statement, entry, body}
 use Rattle.vk_stmt_grammar.proofs.Starts.{semicolon, empty_tree, empty_stmt, zero_parens, zero_condition, no_name, name_sym, if_goes, while_goes, do_goes, for_goes, simd_goes, no_stmt_follows, no_entry_follows}
 use Rattle.vk_stmt_grammar.proofs.Closed.{OnOk, Gives, Shut, statement_shuts}
 use Rattle.vk_stmt_grammar.proofs.Forms.{an_assign, IsInitial, not_initial, an_initial, initialised, IsLater, later, later_joined, AreNames, names, declared, locals_parted, AreOne, one_of, locals_stmt, locals_first, an_else, do_as, for_as}
@@ -124,6 +124,14 @@ module _ (e turns : ℕ) where
   one_locals_follows room w = here_then_follows {S = Has AreLocals} (λ l k list. pure (single l k list)) (locals_follows room w) (λ list v d. locals_parted d.is)
       (λ list v r d. pure_follows (has _ (one_of d.is))) (λ list v d. finished (single (line_at v) (number_at v) list) (has _ (one_of d.is)))
 
+pub brace_no_type : {t : Sym} → IsSign mark.OpenBrace t → is_type_part (Some t.kind) ≡ false
+unfolding is_type_part
+brace_no_type i = subst (λ k. is_type_part (Some k) ≡ false) (sym i.is) refl
+
+pub brace_starts : {t : Sym} → IsSign mark.OpenBrace t → is_stmt_start (Some t.kind) ≡ true
+unfolding is_stmt_start begins_here
+brace_starts i = subst (λ k. is_stmt_start (Some k) ≡ true) (sym i.is) refl
+
 module _ (clauses : Clauses) (e d turns : ℕ) (sub : Parser StmtTree) (sub_entry : Parser (List StmtTree)) (subs : (w : List Sym) → Follows (Has (IsStmt clauses)) [] sub w)
     (entries : (w : List Sym) → Follows (Has (IsEntry clauses)) [] sub_entry w) (shuts : Gives Shut sub) where
   zero_stmt : IsStmt clauses empty_tree 0 (semicolon ∷ [])
@@ -132,10 +140,10 @@ module _ (clauses : Clauses) (e d turns : ℕ) (sub : Parser StmtTree) (sub_entr
   entries_follows : (w : List Sym) → Follows (λ lists. Has (AreEntries clauses) (joined lists)) [] (many turns (is_not mark.CloseBrace) sub_entry) w
   entries_follows w = many_follows (is_not mark.CloseBrace) sub_entry (has _ no_entries) (λ list lists x y a b. has _ (more_entries a.is b.is)) (λ w i. entries w) turns w
 
-  block_follows : (t : Sym) (r : List Sym) → IsSign mark.OpenBrace t → Follows (Has (IsPlain clauses)) [] (block clauses e d turns sub sub_entry) (t ∷ r)
+  block_follows : (t : Sym) (r : List Sym) → IsSign mark.OpenBrace t → Follows (Has (IsBlock clauses)) [] (block clauses e d turns sub sub_entry) (t ∷ r)
   unfolding block
   block_follows t r opens = take_follows (then_expect_follows {S = λ lists. Has (AreEntries clauses) (joined lists)} (entries_follows r)
-      (λ lists x v r2 a shuts. pure_follows (has _ (a_block opens a.is shuts))) (λ lists x v a shuts. finished (StmtTree.block t.line t.at (stmts_in (joined lists))) (has _ (a_block opens a.is shuts))))
+      (λ lists x v r2 a shuts. pure_follows (has _ (in_braces opens a.is shuts))) (λ lists x v a shuts. finished (StmtTree.block t.line t.at (stmts_in (joined lists))) (has _ (in_braces opens a.is shuts))))
 
   -- ---- selection
 
@@ -235,7 +243,7 @@ module _ (clauses : Clauses) (e d turns : ℕ) (sub : Parser StmtTree) (sub_entr
   deeper_follows t r h g = pick_follows (nat_lt 0 d) (λ _. h) (λ _. deep_follows g)
 
   kind_follows : (t : Sym) (r : List Sym) (k : SymKind) → t.kind ≡ k → Follows (Has (IsPlain clauses)) [] (plain_at clauses e d turns sub sub_entry (Some k)) (t ∷ r)
-  kind_follows t r (kind.Sign mark.OpenBrace) i = block_follows t r (record { is = i })
+  kind_follows t r (kind.Sign mark.OpenBrace) i = into_follows {S = Has (IsBlock clauses)} (λ s u a. has _ (a_block a.is)) (block_follows t r (record { is = i }))
   kind_follows t r (kind.Keyword keyword.If) i = deeper_follows t r (choice_follows t r (record { is = i })) (if_goes clauses t (record { is = i }))
   kind_follows t r (kind.Keyword keyword.While) i = deeper_follows t r (while_follows t r (record { is = i })) (while_goes clauses t (record { is = i }))
   kind_follows t r (kind.Keyword keyword.Do) i = deeper_follows t r (do_follows t r (record { is = i })) (do_goes clauses t (record { is = i }))
@@ -251,6 +259,12 @@ module _ (clauses : Clauses) (e d turns : ℕ) (sub : Parser StmtTree) (sub_entr
   unfolding plain
   plain_follows [] = look_follows (plain_at clauses e d turns sub sub_entry) (into_follows {S = Has (IsPart mark.Semicolon)} (λ s u a. has _ (a_part a.is)) (part_follows e turns mark.Semicolon []))
   plain_follows (t ∷ r) = look_follows (plain_at clauses e d turns sub sub_entry) (kind_follows t r t.kind refl)
+
+  -- at a `{`
+  block_here_follows : (t : Sym) (r : List Sym) → IsSign mark.OpenBrace t → Follows (Has (IsBlock clauses)) [] (one_statement clauses e d turns sub sub_entry) (t ∷ r)
+  unfolding one_statement plain
+  block_here_follows t r i = choose_follows is_type_part (λ j. absurd (true≢false (sym j ∙ brace_no_type i)))
+      (λ _. look_follows (plain_at clauses e d turns sub sub_entry) (subst (λ k. Follows (Has (IsBlock clauses)) [] (plain_at clauses e d turns sub sub_entry (Some k)) (t ∷ r)) (sym i.is) (block_follows t r i)))
 
   one_statement_follows : (w : List Sym) → Follows (Has (IsStmt clauses)) [] (one_statement clauses e d turns sub sub_entry) w
   unfolding one_statement
@@ -277,3 +291,21 @@ mutual
   entry_follows clauses e turns zero w = no_entry_follows clauses w
   entry_follows clauses e turns (suc d) w = one_entry_follows clauses e d turns (statement clauses e turns d) (entry clauses e turns d) (statement_follows clauses e turns d) (entry_follows clauses e turns d)
       (statement_shuts clauses e turns d) w
+
+-- ---- the block of a function
+
+block_goes : (clauses : Clauses) (t : Sym) → IsSign mark.OpenBrace t → Goes (Has (IsBlock clauses)) (t ∷ [])
+block_goes clauses t i = goes (sign_of mark.CloseBrace ∷ []) (StmtTree.block t.line t.at (stmts_in [])) (has _ (in_braces i no_entries sign_of_is))
+
+braces_follow : (clauses : Clauses) (e turns d : ℕ) (t : Sym) (r : List Sym) → IsSign mark.OpenBrace t → Follows (Has (IsBlock clauses)) [] (statement clauses e turns d) (t ∷ r)
+unfolding statement no_level
+braces_follow clauses e turns zero t r i = choose_follows is_stmt_start (λ _. deep_follows (block_goes clauses t i)) (λ j. absurd (true≢false (sym (brace_starts i) ∙ j)))
+braces_follow clauses e turns (suc d) t r i = block_here_follows clauses e d turns (statement clauses e turns d) (entry clauses e turns d) (statement_follows clauses e turns d) (entry_follows clauses e turns d)
+    (statement_shuts clauses e turns d) t r i
+
+pub body_follows : (clauses : Clauses) (e turns d : ℕ) (w : List Sym) → Follows (Has (IsBlock clauses)) [] (body clauses e turns d) w
+unfolding is_sign
+body_follows clauses e turns d [] = choose_follows (is_sign mark.OpenBrace) (λ i. absurd (true≢false (sym i)))
+    (λ _. let g : Goes (Has (IsBlock clauses)) (sign_of mark.OpenBrace ∷ []) = block_goes clauses (sign_of mark.OpenBrace) sign_of_is in refuse_follows (goes (sign_of mark.OpenBrace ∷ g.after) g.value g.is))
+body_follows clauses e turns d (t ∷ r) = choose_follows (is_sign mark.OpenBrace) (λ i. braces_follow clauses e turns d t r (record { is = sign_kind mark.OpenBrace t.kind i }))
+    (λ _. let g : Goes (Has (IsBlock clauses)) (sign_of mark.OpenBrace ∷ []) = block_goes clauses (sign_of mark.OpenBrace) sign_of_is in refuse_follows (goes (sign_of mark.OpenBrace ∷ g.after) g.value g.is))

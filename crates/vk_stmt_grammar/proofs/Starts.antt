@@ -22,7 +22,7 @@ use Rattle.vk_grammar.proofs.Signs.{sign_of, sign_of_is}
 use Rattle.vk_grammar.proofs.Starts.{zero_sym, zero_tree, zero_spelled, Spelled, start_goes}
 use Rattle.vk_stmt_grammar.specs.Words.{IsKeyword, has_const, step_at, step_of, IsStep, begins_here, is_stmt_start}
 use Rattle.vk_stmt_grammar.specs.Trees.{Clauses, directive_at, unit_at}
-use Rattle.vk_stmt_grammar.specs.Grammar.{InParens, in_parens, left_out, a_step_before, a_value, no_act, an_act, bare, none_named, AreLocals, locals, first_act, IsPlain, a_block, a_part, an_if, a_while, a_do, a_for, a_break, a_continue, a_return, a_simd, a_lost_line, IsStmt, a_plain, some_locals, IsEntry, plain_entry, locals_entry, no_entries}
+use Rattle.vk_stmt_grammar.specs.Grammar.{InParens, in_parens, left_out, a_step_before, a_value, no_act, an_act, bare, none_named, AreLocals, locals, first_act, in_braces, IsPlain, a_block, a_part, an_if, a_while, a_do, a_for, a_break, a_continue, a_return, a_simd, a_lost_line, IsStmt, a_plain, some_locals, IsEntry, plain_entry, locals_entry, no_entries}
 use Rattle.vk_stmt_grammar.specs.Reading.{no_level}
 use Rattle.vk_stmt_grammar.proofs.Signs.{Has, has, word_of, word_of_is}
 
@@ -112,7 +112,7 @@ module _ (clauses : Clauses) where
 
   kind_goes : (t : Sym) (k : SymKind) → t.kind ≡ k → begins_here k ≡ true → Either (t ∷ [])
   unfolding begins_here step_at step_of
-  kind_goes t (kind.Sign mark.OpenBrace) i e = inl (goes (sign_of mark.CloseBrace ∷ []) (StmtTree.block t.line t.at _) (has _ (a_block (record { is = i }) no_entries sign_of_is)))
+  kind_goes t (kind.Sign mark.OpenBrace) i e = inl (goes (sign_of mark.CloseBrace ∷ []) (StmtTree.block t.line t.at _) (has _ (a_block (in_braces (record { is = i }) no_entries sign_of_is))))
   kind_goes t (kind.Sign mark.Semicolon) i e = inl (goes [] (StmtTree.empty t.line t.at) (has _ (a_part (no_act (record { is = i })))))
   kind_goes t (kind.Sign mark.Increment) i e = inl (step_goes t op.Add (record { is = subst (λ k. step_at (Some k) ≡ Some op.Add) (sym i) refl }))
   kind_goes t (kind.Sign mark.Decrement) i e = inl (step_goes t op.Sub (record { is = subst (λ k. step_at (Some k) ≡ Some op.Sub) (sym i) refl }))

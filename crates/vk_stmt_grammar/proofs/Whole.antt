@@ -20,8 +20,8 @@ use Rattle.vk_grammar.proofs.Equations
 use Rattle.vk_stmt_grammar.specs.Words.{IsKeyword, is_keyword, same_keyword, step_of, step_at, IsStep, begins_here}
 use Rattle.vk_stmt_grammar.specs.Trees.{Clauses, directive_at, stmts_in, joined, single, is_open, levels_of, all_levels}
 use Rattle.vk_stmt_grammar.specs.Grammar
-use Rattle.vk_stmt_grammar.specs.Grammar.{InParens, IsOptional, IsAct, an_assignment, a_step_before, a_step_behind, a_value, IsPart, no_act, an_act, AreLocals, IsFirst, first_act, first_locals, IsPlain, a_block, a_part, an_if, an_if_else, a_while, a_do, a_for, a_break, a_continue, a_return, a_simd, a_lost_line, IsStmt, a_plain, some_locals, IsEntry, plain_entry, locals_entry, AreEntries, no_entries, more_entries}
-use Rattle.vk_stmt_grammar.specs.Reading.{is_not, condition, optional, part, locals, one_locals, jump, returned, block, else_part, choice, while_loop, do_loop, first_part, for_rest, for_loop, simd_line, lost_line, plain_at, plain, one_statement, one_entry, statement, entry}
+use Rattle.vk_stmt_grammar.specs.Grammar.{InParens, IsOptional, IsAct, an_assignment, a_step_before, a_step_behind, a_value, IsPart, no_act, an_act, AreLocals, IsFirst, first_act, first_locals, IsBlock, in_braces, IsPlain, a_block, a_part, an_if, an_if_else, a_while, a_do, a_for, a_break, a_continue, a_return, a_simd, a_lost_line, IsStmt, a_plain, some_locals, IsEntry, plain_entry, locals_entry, AreEntries, no_entries, more_entries}
+use Rattle.vk_stmt_grammar.specs.Reading.{is_not, condition, optional, part, locals, one_locals, jump, returned, block, else_part, choice, while_loop, do_loop, first_part, for_rest, for_loop, simd_line, lost_line, plain_at, plain, one_statement, one_entry, statement, entry, body}
 use Rattle.vk_stmt_grammar.proofs.Signs.{Parted, keyword_kind, keyword_is}
 use Rattle.vk_stmt_grammar.proofs.Forms.{entry_parted}
 use Rattle.vk_stmt_grammar.proofs.Limits.{AllAt}
@@ -77,7 +77,7 @@ part_begun (an_act {v = v} a i) = more_begun (v ∷ []) (act_begun a)
 
 plain_begun : {clauses : Clauses} {s : StmtTree} {h : ℕ} {x : List Sym} → IsPlain clauses s h x → Begun x
 unfolding begins_here is_type_part
-plain_begun (a_block i d j) = begun_with _ i refl refl
+plain_begun (a_block (in_braces i d j)) = begun_with _ i refl refl
 plain_begun (a_part d) = part_begun d
 plain_begun (an_if i p d) = begun_with _ i refl refl
 plain_begun (an_if_else i p d shut j b) = begun_with _ i refl refl
@@ -472,8 +472,11 @@ module _ (clauses : Clauses) where
   -- ---- every text
 
   mutual
+    whole_block : {s : StmtTree} {h : ℕ} {u : List Sym} → IsBlock clauses s h u → PlainAs s h u
+    whole_block (in_braces i d j) = block_as i (whole_entries d) j
+
     whole_plain : {s : StmtTree} {h : ℕ} {u : List Sym} → IsPlain clauses s h u → PlainAs s h u
-    whole_plain (a_block i d j) = block_as i (whole_entries d) j
+    whole_plain (a_block d) = whole_block d
     whole_plain (a_part p) = part_as p
     whole_plain (an_if i p a) = if_as i p (whole_stmt a)
     whole_plain (an_if_else i p a closed j b) = else_as i p (whole_stmt a) closed j (whole_stmt b)
@@ -502,5 +505,7 @@ module _ (clauses : Clauses) where
 pub stmt_reads : {clauses : Clauses} {s : StmtTree} {h : ℕ} {u : List Sym} → IsStmt clauses s h u → StmtAs clauses s h u
 stmt_reads {clauses} d = whole_stmt clauses d
 
-pub entries_read : {clauses : Clauses} {list : List StmtTree} {h : ℕ} {u : List Sym} → AreEntries clauses list h u → EntriesAs clauses list h u
-entries_read {clauses} d = whole_entries clauses d
+-- the block of a function
+pub body_reads : {clauses : Clauses} {s : StmtTree} {h : ℕ} {u : List Sym} (e turns d : ℕ) (r : List Sym) → IsBlock clauses s h u → h ≤ suc e → length u < turns → levels_of s ≤ d → body clauses e turns d (u ++ r) ≡ Ok (s, r)
+body_reads {clauses} e turns d r (in_braces {u = u} {list = list} {x = x} {v = v} i b j) hi l lv = rw (sign_is i)
+    ((stmt_reads (a_plain (a_block (in_braces i b j)))).reads e turns d r hi l lv (λ o. absurd (true≢false (sym o))))

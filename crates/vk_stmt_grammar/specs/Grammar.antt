@@ -75,10 +75,14 @@ pub data IsFirst : StmtTree → (height : ℕ) → List Sym → Type 0 where
   first_locals : {list : List StmtTree} {h : ℕ} {x : List Sym} → AreLocals list h x → IsFirst (single (line_at x) (number_at x) list) h x
 
 mutual
+  -- blocks (6.8.2)
+  pub data IsBlock (clauses : Clauses) : StmtTree → (height : ℕ) → List Sym → Type 0 where
+    in_braces : {u : Sym} {list : List StmtTree} {h : ℕ} {x : List Sym} {v : Sym} → IsSign mark.OpenBrace u → AreEntries clauses list h x → IsSign mark.CloseBrace v
+        → IsBlock clauses (StmtTree.block u.line u.at (stmts_in list)) h (u ∷ (x ++ (v ∷ [])))
+
   -- statements that are no declarations
   pub data IsPlain (clauses : Clauses) : StmtTree → (height : ℕ) → List Sym → Type 0 where
-    a_block : {u : Sym} {list : List StmtTree} {h : ℕ} {x : List Sym} {v : Sym} → IsSign mark.OpenBrace u → AreEntries clauses list h x → IsSign mark.CloseBrace v
-        → IsPlain clauses (StmtTree.block u.line u.at (stmts_in list)) h (u ∷ (x ++ (v ∷ [])))
+    a_block : {s : StmtTree} {h : ℕ} {x : List Sym} → IsBlock clauses s h x → IsPlain clauses s h x
     a_part : {s : StmtTree} {h : ℕ} {x : List Sym} → IsPart mark.Semicolon s h x → IsPlain clauses s h x
     -- selection (6.8.4)
     an_if : {t : Sym} {c : Tree} {h : ℕ} {x : List Sym} {s : StmtTree} {k : ℕ} {y : List Sym} → IsKeyword keyword.If t → InParens c h x → IsStmt clauses s k y
