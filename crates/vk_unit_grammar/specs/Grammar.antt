@@ -18,7 +18,7 @@ use Rattle.vk_kinds.specs.declared.heads.CType.TheVariants as ctype
 use Rattle.vk_ast.specs.declared.names.NameId.{NameId}
 use Rattle.vk_ast.specs.declared.items.ParamDecl.{ParamDecl}
 use Rattle.vk_ast.specs.Tree.{Tree}
-use Rattle.vk_ast.specs.Statements.{StmtTree, StmtTrees}
+use Rattle.vk_ast.specs.Statements.{StmtTree}
 use Rattle.vk_ast.specs.Directives.{DirectiveTree}
 use Rattle.vk_ast.specs.Units.{ItemTree}
 use Rattle.vk_tokens.specs.declared.tokens.Mark.TheVariants as mark
@@ -29,8 +29,8 @@ use Rattle.vk_grammar.specs.Symbols.{line_at, number_at, Is, IsSign}
 use Rattle.vk_grammar.specs.Types.{IsType, type_in}
 use Rattle.vk_grammar.specs.Grammar.{full, Spells}
 use Rattle.vk_stmt_grammar.specs.Words.{IsKeyword, has_const}
-use Rattle.vk_stmt_grammar.specs.Trees.{Clauses, directive_at, stmts_in}
-use Rattle.vk_stmt_grammar.specs.Grammar.{IsOptional, AreEntries}
+use Rattle.vk_stmt_grammar.specs.Trees.{Clauses, directive_at}
+use Rattle.vk_stmt_grammar.specs.Grammar.{IsOptional, IsBlock}
 use Rattle.vk_unit_grammar.specs.Items.{Named, is_qualifier, pointer_to, with_name, without_name, all_named, function_tree, ObjectType, Initial, no_initial, object_tree, lost_lines, unit_levels}
 
 -- an identifier
@@ -85,8 +85,7 @@ pub data AreParams : List ParamDecl → (height : ℕ) → List Sym → Type 0 w
 -- `";" | block`: a block only where each parameter has a name
 pub data IsBody (clauses : Clauses) (params : List ParamDecl) : Option StmtTree → (height : ℕ) → List Sym → Type 0 where
   declared : {t : Sym} → IsSign mark.Semicolon t → IsBody clauses params None 0 (t ∷ [])
-  defined : {u : Sym} {list : List StmtTree} {h : ℕ} {x : List Sym} {v : Sym} → all_named params ≡ true → IsSign mark.OpenBrace u → AreEntries clauses list h x → IsSign mark.CloseBrace v
-      → IsBody clauses params (Some (StmtTree.block u.line u.at (stmts_in list))) h (u ∷ (x ++ (v ∷ [])))
+  defined : {s : StmtTree} {h : ℕ} {x : List Sym} → all_named params ≡ true → IsBlock clauses s h x → IsBody clauses params (Some s) h x
 
 -- what stands behind the name of a function
 pub data IsFunction (clauses : Clauses) (lines : List DirectiveTree) (result : CType) (n : Named) : ItemTree → (height : ℕ) → List Sym → Type 0 where
