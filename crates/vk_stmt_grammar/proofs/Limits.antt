@@ -37,7 +37,7 @@ pub record Fits {A : Type 0} (R : A → ℕ → List Sym → Type 0) (P : A → 
   pub most : height ≤ e
   pub fits : P a
 
-abbrev fit : {A : Type 0} {R : A → ℕ → List Sym → Type 0} {P : A → Type 0} {e : ℕ} {a : A} {u : List Sym} (h : ℕ) → R a h u → h ≤ e → P a → Fits R P e a u
+abbrev pub fit : {A : Type 0} {R : A → ℕ → List Sym → Type 0} {P : A → Type 0} {e : ℕ} {a : A} {u : List Sym} (h : ℕ) → R a h u → h ≤ e → P a → Fits R P e a u
 fit h d m p = record { height = h; is = d; most = m; fits = p }
 
 -- an expression within the limit

@@ -117,3 +117,14 @@ module _ {clauses : Clauses} {lines : List DirectiveTree} where
   pub items_as : {x : List Sym} {list : List ItemTree} {h : ℕ} {y : List Sym} {rest : List ItemTree} {k : ℕ} {z : List Sym} → AreLines clauses lines x → IsItem clauses lines list h y → AreItems clauses rest k z
       → AreItems clauses (list ++ rest) (max h k) ((x ++ y) ++ z)
   items_as {x} {y = y} {z = z} a b c = as_text (AreItems clauses) (sym (append_assoc x y z)) (next_item a b c)
+
+-- ---- no item is empty
+
+pub part_behind : (o : List Sym) {x : List Sym} → Parted x → Parted (o ++ x)
+part_behind [] p = p
+part_behind (t ∷ o) {x} p = record { first = t; others = o ++ x; parts = refl }
+
+pub item_parted : {clauses : Clauses} {lines : List DirectiveTree} {list : List ItemTree} {h : ℕ} {x : List Sym} → IsItem clauses lines list h x → Parted x
+item_parted (void_function {o = o} {t = t} {x = x} {y = y} e i n f) = part_behind o (record { first = t; others = x ++ y; parts = refl })
+item_parted (int_function {o = o} {x = x} {y = y} e t n f) = part_behind o (type_parted (x ++ y) t)
+item_parted (some_objects {o = o} {x = x} {y = y} e t n f) = part_behind o (type_parted (x ++ y) t)

@@ -1,3 +1,5 @@
 mod Examples
 pub mod Forms
 pub mod Sound
+pub mod Grown
+pub mod Limits

@@ -64,7 +64,7 @@ unfolding read.line Items.line_at
 line_follows clauses [] e = absurd (true≢false (sym e))
 line_follows clauses (t ∷ r) e = choose_some_follows Items.line_at (λ n i. take_follows (pure_follows (Forms.one_line (record { is = line_kind t.kind n i })))) (λ i. absurd (true≢false (sym e ∙ ap is_line i)))
 
-line_joined : (clauses : Clauses) (d : DirectiveTree) (list : List DirectiveTree) (x y : List Sym) → Forms.IsLine clauses d x → AreLines clauses list y → AreLines clauses (d ∷ list) (x ++ y)
+pub line_joined : (clauses : Clauses) (d : DirectiveTree) (list : List DirectiveTree) (x y : List Sym) → Forms.IsLine clauses d x → AreLines clauses list y → AreLines clauses (d ∷ list) (x ++ y)
 line_joined clauses d list x y (Forms.one_line i) b = a_line i b
 
 lines_follow : (clauses : Clauses) (turns : ℕ) (w : List Sym) → Follows (AreLines clauses) [] (read.lines clauses turns) w
@@ -96,7 +96,7 @@ module _ (e turns : ℕ) where
   qualifier_follows [] i = absurd (true≢false (sym i))
   qualifier_follows (t ∷ r) i = token_follows (refl, i)
 
-  qualifier_joined : (t : Sym) (q x y : List Sym) → (x ≡ t ∷ []) × (is_qualifier (Some t.kind) ≡ true) → Forms.QualifierText q y → Forms.QualifierText (t ∷ q) (x ++ y)
+  pub qualifier_joined : (t : Sym) (q x y : List Sym) → (x ≡ t ∷ []) × (is_qualifier (Some t.kind) ≡ true) → Forms.QualifierText q y → Forms.QualifierText (t ∷ q) (x ++ y)
   qualifier_joined t q x y i b = subst (λ z. Forms.QualifierText (t ∷ q) (z ++ y)) (sym i.0) (record { same = ap (λ z. t ∷ z) b.same; are = a_qualifier i.1 b.are })
 
   qualifiers_follow : (w : List Sym) → Follows Forms.QualifierText [] (many turns is_qualifier take) w
