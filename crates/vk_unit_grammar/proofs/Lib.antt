@@ -3,3 +3,4 @@ pub mod Forms
 pub mod Sound
 pub mod Grown
 pub mod Limits
+pub mod Whole
