@@ -411,3 +411,159 @@ module _ (e turns : ℕ) where
       ∙ objects_by of n (x ++ (y ++ (v ∷ r))) (y ++ (v ∷ r)) r (object_reads (y ++ (v ∷ r)) d (omega (arith, hi)) (omega (arith, l, length-append x (y ++ (v ∷ [])))) (more_objects_end (v ∷ r) b (semicolon_ends_object i)))
       (more_objects_read turns (v ∷ r) b (omega (arith, hi)) (omega (arith, l, length-append x (y ++ (v ∷ [])), length-append y (v ∷ []))) (omega (arith, l, length-append x (y ++ (v ∷ [])), length-append y (v ∷ [])))
       (semicolon_ends_object i) (semicolon_no_comma i)) i
+
+-- ---- functions
+
+block_no_semicolon : {clauses : Clauses} {s : StmtTree} {h : ℕ} {x : List Sym} (r : List Sym) → IsBlock clauses s h x → is_sign mark.Semicolon (head (x ++ r)) ≡ false
+unfolding is_sign same_mark
+block_no_semicolon r (in_braces i d j) = at_kind (is_sign mark.Semicolon) i
+
+extern_no_void : {t : Sym} → IsKeyword keyword.Void t → is_keyword keyword.Extern (Some t.kind) ≡ false
+unfolding is_keyword same_keyword
+extern_no_void i = at_kind (is_keyword keyword.Extern) i
+
+type_head : (test : Option SymKind → Bool) → ((k : SymKind) → is_type_part (Some k) ≡ true → test (Some k) ≡ false) → {c : List Sym} (w : List Sym) → IsType c → test (head (c ++ w)) ≡ false
+type_head test never {c} w t = let p : Parted (c ++ w) = type_parted w t in
+    ap (λ z. test (head z)) p.parts ∙ never p.first.kind (sym (ap (λ z. is_type_part (head z)) p.parts) ∙ Equations.type_begins w t)
+
+type_no_line : (k : SymKind) → is_type_part (Some k) ≡ true → at_line (Some k) ≡ false
+unfolding is_type_part Items.line_at
+type_no_line (kind.Simdfn n) e = absurd (true≢false (sym e))
+type_no_line _ e = refl
+
+word_no_line : {w : Keyword} {t : Sym} → IsKeyword w t → at_line (Some t.kind) ≡ false
+unfolding Items.line_at
+word_no_line i = at_kind at_line i
+
+object_no_paren : {of : ObjectType} {n : Named} {o : ItemTree} {h : ℕ} {x : List Sym} (r : List Sym) → IsObject of n o h x → is_sign mark.OpenParen (head r) ≡ false → is_sign mark.OpenParen (head (x ++ r)) ≡ false
+unfolding is_sign same_mark
+object_no_paren r (an_object no_array not_initial) e = e
+object_no_paren r (an_object no_array (a_scalar i d)) e = at_kind (is_sign mark.OpenParen) i
+object_no_paren r (an_object no_array (a_list i j d k)) e = at_kind (is_sign mark.OpenParen) i
+object_no_paren r (an_object (a_length i o) b) e = at_kind (is_sign mark.OpenParen) i
+
+objects_no_paren : {of : ObjectType} {n : Named} {list : List ItemTree} {h : ℕ} {x : List Sym} (r : List Sym) → AreObjects of n list h x → is_sign mark.OpenParen (head (x ++ r)) ≡ false
+objects_no_paren r (Grammar.AreObjects.objects {x = x} {y = y} {v = v} d b i) = ap (λ z. is_sign mark.OpenParen (head z)) (append_assoc x (y ++ (v ∷ [])) r ∙ ap (λ z. x ++ z) (append_assoc y (v ∷ []) r))
+    ∙ object_no_paren (y ++ (v ∷ r)) d (more_objects_end 0 0 (v ∷ r) b (semicolon_ends_object i)).no_paren
+
+module _ (clauses : Clauses) (e d turns : ℕ) where
+  declared_reads : (ps : List ParamDecl) {t : Sym} (r : List Sym) → IsSign mark.Semicolon t → read.function_end clauses e d turns ps (t ∷ r) ≡ Ok (None, r)
+  unfolding read.function_end
+  declared_reads ps r i = rw (sign_is i) refl
+
+  defined_reads : (ps : List ParamDecl) {s : StmtTree} (w r : List Sym) → is_sign mark.Semicolon (head w) ≡ false → all_named ps ≡ true → body clauses e turns d w ≡ Ok (s, r) → read.function_end clauses e d turns ps w ≡ Ok (Some s, r)
+  unfolding read.function_end read.definition
+  defined_reads ps w r i n b = rw (i, n, b) refl
+
+  end_reads : {ps : List ParamDecl} {b : Option StmtTree} {h : ℕ} {x : List Sym} (r : List Sym) → IsBody clauses ps b h x → h ≤ suc e → length x < turns → body_levels b ≤ d → read.function_end clauses e d turns ps (x ++ r) ≡ Ok (b, r)
+  end_reads {ps} r (declared i) hi l lv = declared_reads ps r i
+  end_reads {ps} r (defined {x = x} n b) hi l lv = defined_reads ps (x ++ r) r (block_no_semicolon r b) n (body_reads e turns d r b hi l lv)
+
+  function_by : (ls : List DirectiveTree) (result : CType) (n : Named) {u : Sym} {ps : List ParamDecl} {v : Sym} {b : Option StmtTree} (w w2 r : List Sym) → IsSign mark.OpenParen u → read.params e turns w ≡ Ok (ps, v ∷ w2) → IsSign mark.CloseParen v
+      → read.function_end clauses e d turns ps w2 ≡ Ok (b, r) → read.function clauses e d turns ls result n (u ∷ w) ≡ Ok (function_tree n ls result ps b, r)
+  unfolding read.function
+  function_by ls result n w w2 r i p j b = rw (sign_is i, p, sign_is j, b) refl
+
+  function_reads : {ls : List DirectiveTree} {result : CType} {n : Named} {f : ItemTree} {h : ℕ} {x : List Sym} (r : List Sym) → IsFunction clauses ls result n f h x → h ≤ suc e → length x < turns → item_levels f ≤ d
+      → read.function clauses e d turns ls result n (x ++ r) ≡ Ok (f, r)
+  function_reads {ls} {result} {n} r (a_function {u = u} {x = x} {v = v} {y = y} i p j b) hi l lv = ap (λ z. read.function clauses e d turns ls result n (u ∷ z)) (append_assoc x (v ∷ y) r)
+      ∙ function_by ls result n (x ++ (v ∷ (y ++ r))) (y ++ r) r i (params_read e turns (y ++ r) p (omega (arith, hi)) (omega (arith, l, length-append x (v ∷ y))) j) j
+      (end_reads r b (omega (arith, hi)) (omega (arith, l, length-append x (v ∷ y))) lv)
+
+  one_function_reads : (ls : List DirectiveTree) (result : CType) (n : Named) {f : ItemTree} (w r : List Sym) → read.function clauses e d turns ls result n w ≡ Ok (f, r) → read.one_function clauses e d turns ls result n w ≡ Ok (f ∷ [], r)
+  unfolding read.one_function
+  one_function_reads ls result n w r f = rw f refl
+
+  function_paren : {ls : List DirectiveTree} {result : CType} {n : Named} {f : ItemTree} {h : ℕ} {x : List Sym} (r : List Sym) → IsFunction clauses ls result n f h x → is_sign mark.OpenParen (head (x ++ r)) ≡ true
+  function_paren r (a_function i p j b) = sign_is i
+
+  -- ---- items
+
+  void_by : (ls : List DirectiveTree) {outside : Bool} {t : Sym} {n : Named} {list : List ItemTree} (w w2 w3 r : List Sym) → read.extern_word w ≡ Ok (outside, t ∷ w2) → IsKeyword keyword.Void t → read.name w2 ≡ Ok (n, w3)
+      → read.one_function clauses e d turns ls ctype.Void n w3 ≡ Ok (list, r) → read.item clauses e d turns ls w ≡ Ok (list, r)
+  unfolding read.item read.void_function
+  void_by ls w w2 w3 r x i n f = rw (x, keyword_is i, n) f
+
+  typed_by : (ls : List DirectiveTree) {outside : Bool} {c : List Sym} {n : Named} {list : List ItemTree} (w w2 w3 w4 r : List Sym) → read.extern_word w ≡ Ok (outside, w2) → is_keyword keyword.Void (head w2) ≡ false
+      → type_words turns w2 ≡ Ok (c, w3) → read.name w3 ≡ Ok (n, w4) → read.typed_item clauses e d turns ls (Forms.type_of_objects c outside) n w4 ≡ Ok (list, r) → read.item clauses e d turns ls w ≡ Ok (list, r)
+  unfolding read.item read.typed
+  typed_by ls w w2 w3 w4 r x v t n f = rw (x, v, t, n) f
+
+  function_item : (ls : List DirectiveTree) (of : ObjectType) (n : Named) {list : List ItemTree} (w r : List Sym) → is_sign mark.OpenParen (head w) ≡ true → read.one_function clauses e d turns ls (ctype.Int of.ty) n w ≡ Ok (list, r)
+      → read.typed_item clauses e d turns ls of n w ≡ Ok (list, r)
+  unfolding read.typed_item
+  function_item ls of n w r i f = rw i f
+
+  objects_item : (ls : List DirectiveTree) (of : ObjectType) (n : Named) {list : List ItemTree} (w r : List Sym) → is_sign mark.OpenParen (head w) ≡ false → read.objects e turns of n w ≡ Ok (list, r)
+      → read.typed_item clauses e d turns ls of n w ≡ Ok (lost_lines ls ++ list, r)
+  unfolding read.typed_item read.lost_objects
+  objects_item ls of n w r i f = rw (i, f) refl
+
+  -- the first token of an item is no line of a directive
+  item_no_line : {ls : List DirectiveTree} {list : List ItemTree} {h : ℕ} {x : List Sym} (r : List Sym) → IsItem clauses ls list h x → at_line (head (x ++ r)) ≡ false
+  item_no_line r (void_function no_extern i n f) = word_no_line i
+  item_no_line r (void_function (an_extern j) i n f) = word_no_line j
+  item_no_line r (int_function {c = c} {x = x} {y = y} no_extern t n f) = ap (λ z. at_line (head z)) (append_assoc c (x ++ y) r) ∙ type_head at_line type_no_line ((x ++ y) ++ r) t
+  item_no_line r (int_function (an_extern j) t n f) = word_no_line j
+  item_no_line r (some_objects {c = c} {x = x} {y = y} no_extern t n f) = ap (λ z. at_line (head z)) (append_assoc c (x ++ y) r) ∙ type_head at_line type_no_line ((x ++ y) ++ r) t
+  item_no_line r (some_objects (an_extern j) t n f) = word_no_line j
+
+  levels_apart : (a b : List ItemTree) → unit_levels (a ++ b) ≤ d → (unit_levels a ≤ d) × (unit_levels b ≤ d)
+  levels_apart [] b i = (omega arith, i)
+  levels_apart (s ∷ a) b i = let rest = levels_apart a b (omega (arith, i)) in (omega (arith, i, rest.0), rest.1)
+
+  item_reads : {ls : List DirectiveTree} {list : List ItemTree} {h : ℕ} {x : List Sym} (r : List Sym) → IsItem clauses ls list h x → h ≤ suc e → length x < turns → unit_levels list ≤ d
+      → read.item clauses e d turns ls (x ++ r) ≡ Ok (list, r)
+  item_reads {ls} r (void_function {o = o} {t = t} {n = n} {x = x} {y = y} x_ i name f) hi l lv =
+      let size : length y < turns = omega (arith, l, length-append o (t ∷ (x ++ y)), length-append x y) in
+      ap (read.item clauses e d turns ls) (append_assoc o (t ∷ (x ++ y)) r ∙ ap (λ z. o ++ (t ∷ z)) (append_assoc x y r))
+      ∙ void_by ls (o ++ (t ∷ (x ++ (y ++ r)))) (x ++ (y ++ r)) (y ++ r) r (extern_reads (t ∷ (x ++ (y ++ r))) x_ (extern_no_void i)) i (name_reads (y ++ r) name)
+      (one_function_reads ls ctype.Void n (y ++ r) r (function_reads r f hi size (omega (arith, lv))))
+  item_reads {ls} r (int_function {outside = outside} {o = o} {c = c} {n = n} {x = x} {y = y} x_ t name f) hi l lv =
+      let size : length y + (length c + length x) < turns = omega (arith, l, length-append o (c ++ (x ++ y)), length-append c (x ++ y), length-append x y) in
+      let w : List Sym = x ++ (y ++ r) in
+      ap (read.item clauses e d turns ls) (append_assoc o (c ++ (x ++ y)) r ∙ ap (λ z. o ++ z) (append_assoc c (x ++ y) r ∙ ap (λ z. c ++ z) (append_assoc x y r)))
+      ∙ typed_by ls (o ++ (c ++ w)) (c ++ w) w (y ++ r) r (extern_reads (c ++ w) x_ (type_head (is_keyword keyword.Extern) type_no_extern w t)) (type_head (is_keyword keyword.Void) type_no_void w t)
+      (Equations.words_read turns w t (omega (arith, size)) (name_no_type 0 0 0 0 (type_in c) false (y ++ r) name)) (name_reads (y ++ r) name)
+      (function_item ls (Forms.type_of_objects c outside) n (y ++ r) r (function_paren r f) (one_function_reads ls (ctype.Int (type_in c)) n (y ++ r) r (function_reads r f hi (omega (arith, size)) (omega (arith, lv)))))
+  item_reads {ls} r (some_objects {outside = outside} {o = o} {c = c} {n = n} {x = x} {y = y} x_ t name f) hi l lv =
+      let size : length y + (length c + length x) < turns = omega (arith, l, length-append o (c ++ (x ++ y)), length-append c (x ++ y), length-append x y) in
+      let w : List Sym = x ++ (y ++ r) in
+      ap (read.item clauses e d turns ls) (append_assoc o (c ++ (x ++ y)) r ∙ ap (λ z. o ++ z) (append_assoc c (x ++ y) r ∙ ap (λ z. c ++ z) (append_assoc x y r)))
+      ∙ typed_by ls (o ++ (c ++ w)) (c ++ w) w (y ++ r) r (extern_reads (c ++ w) x_ (type_head (is_keyword keyword.Extern) type_no_extern w t)) (type_head (is_keyword keyword.Void) type_no_void w t)
+      (Equations.words_read turns w t (omega (arith, size)) (name_no_type 0 0 0 0 (type_in c) false (y ++ r) name)) (name_reads (y ++ r) name)
+      (objects_item ls (Forms.type_of_objects c outside) n (y ++ r) r (objects_no_paren r f) (objects_read e turns r f hi (omega (arith, size))))
+
+  last_by : {ls : List DirectiveTree} (n : ℕ) (w : List Sym) → read.lines clauses turns w ≡ Ok (ls, []) → read.items clauses e d turns (suc n) w ≡ Ok (lost_lines ls, [])
+  unfolding read.items read.items_step
+  last_by n w a = rw a refl
+
+  next_by : {ls : List DirectiveTree} {list rest : List ItemTree} (n : ℕ) (w w2 w3 r : List Sym) → read.lines clauses turns w ≡ Ok (ls, w2) → is_end (head w2) ≡ false → read.item clauses e d turns ls w2 ≡ Ok (list, w3)
+      → read.items clauses e d turns n w3 ≡ Ok (rest, r) → read.items clauses e d turns (suc n) w ≡ Ok (list ++ rest, r)
+  unfolding read.items read.items_step
+  next_by n w w2 w3 r a i b c = rw (a, i, b, c) refl
+
+  all_lines_read : {ls : List DirectiveTree} {x : List Sym} (r : List Sym) → AreLines clauses ls x → length x < turns → at_line (head r) ≡ false → read.lines clauses turns (x ++ r) ≡ Ok (ls, r)
+  unfolding read.lines
+  all_lines_read r a l i = lines_read clauses turns r a l i
+
+  end_no_line : at_line (head []) ≡ false
+  unfolding Items.line_at
+  end_no_line = refl
+
+  part_no_end : {x : List Sym} (r : List Sym) → Parted x → is_end (head (x ++ r)) ≡ false
+  part_no_end r p = ap (λ z. is_end (head (z ++ r))) p.parts
+
+  items_read : {list : List ItemTree} {h : ℕ} {u : List Sym} (n : ℕ) → AreItems clauses list h u → h ≤ suc e → length u < turns → length u < n → unit_levels list ≤ d → read.items clauses e d turns n u ≡ Ok (list, [])
+  items_read zero a hi l i lv = absurd (omega (arith, i))
+  items_read (suc n) (last_lines {x = x} a) hi l i lv = ap (read.items clauses e d turns (suc n)) (sym (append-nil x)) ∙ last_by n (x ++ []) (all_lines_read [] a l end_no_line)
+  items_read (suc n) (next_item {x = x} {list = list} {h = h} {y = y} {rest = rest} {k = k} {z = z} a b c) hi l i lv =
+      let p = Forms.item_parted b in
+      let sizes : length z + length x < length (x ++ (y ++ z)) = omega (arith, length-append x (y ++ z), length-append y z, ap length p.parts) in
+      let all : length (x ++ (y ++ z)) ≡ length x + (length y + length z) = omega (arith, length-append x (y ++ z), length-append y z) in
+      let parts = levels_apart list rest lv in
+      next_by n (x ++ (y ++ z)) (y ++ z) z [] (all_lines_read (y ++ z) a (omega (arith, l, all)) (item_no_line z b)) (part_no_end z p)
+      (item_reads z b (omega (arith, hi)) (omega (arith, l, all)) parts.0) (items_read {list = rest} {h = k} {u = z} n c (omega (arith, hi)) (omega (arith, l, sizes)) (omega (arith, i, sizes)) parts.1)
+
+pub unit_reads : {clauses : Clauses} {list : List ItemTree} {h : ℕ} {u : List Sym} (e d turns : ℕ) → AreItems clauses list h u → h ≤ suc e → unit_levels list ≤ d → length u < turns → read.items clauses e d turns turns u ≡ Ok (list, [])
+unit_reads {clauses} e d turns a hi lv l = items_read clauses e d turns turns a hi l l lv
