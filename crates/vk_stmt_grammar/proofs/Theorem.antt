@@ -19,10 +19,10 @@ use Rattle.vk_stmt_grammar.proofs.Whole.{stmt_reads}
 use Rattle.vk_stmt_grammar.proofs.Readers
 use Rattle.vk_stmt_grammar.proofs.Readers.{Above, IsReader}
 
-same_room : {d : ℕ} {deep : Bool} → Room deep d d
+pub same_room : {d : ℕ} {deep : Bool} → Room deep d d
 same_room = record { above = omega arith; same = λ f. refl }
 
-more_room : (d k : ℕ) → Room true d (d + k)
+pub more_room : (d k : ℕ) → Room true d (d + k)
 more_room d k = record { above = omega arith; same = λ f. absurd (true≢false f) }
 
 no_else : is_keyword keyword.Else (head []) ≡ false

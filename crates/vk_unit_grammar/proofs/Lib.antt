@@ -4,3 +4,4 @@ pub mod Sound
 pub mod Grown
 pub mod Limits
 pub mod Whole
+pub mod Theorem
