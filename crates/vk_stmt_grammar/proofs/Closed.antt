@@ -16,7 +16,7 @@ use Rattle.vk_grammar.specs.Grammar.{Tall}
 use Rattle.vk_grammar.specs.Reading.{type_words, expression, onwards}
 use Rattle.vk_stmt_grammar.specs.Words.{is_keyword, has_const, step_at, assign_at, name_at, is_stmt_start}
 use Rattle.vk_stmt_grammar.specs.Trees.{Clauses, directive_at, stmts_in, joined, single, unit_at, is_open}
-use Rattle.vk_stmt_grammar.specs.Reading.{expect_word, is_not, no_level, cond, unary, condition, optional, initial, later_local, step_before, assigned, stepped, valued, behind_operand, act, part, named_local, local, local_list, locals, one_locals, jump, returned, block, else_part, choice, while_loop, do_loop, first_part, for_rest, for_loop, simd_line, lost_line, deeper, plain_at, plain, one_statement, statement}
+use Rattle.vk_stmt_grammar.specs.Reading.{expect_word, is_not, no_level, cond, unary, condition, optional, initial, later_local, step_before, assigned, stepped, valued, behind_operand, act, part, named_local, local, local_list, locals, one_locals, jump, returned, block, else_part, choice, while_loop, do_loop, first_part, for_rest, for_loop, simd_line, lost_line, plain_at, plain, one_statement, statement}
 
 -- ---- what is true of all that is read, and of the tokens left
 

@@ -4,7 +4,7 @@ use Rattle.vk_types.specs.declared.types.Ty.TheVariants.{I32}
 use Rattle.vk_ast.specs.declared.names.NameId.{NameId}
 use Rattle.vk_ast.specs.declared.expressions.BinOp.TheVariants as op
 use Rattle.vk_ast.specs.Tree.{Tree}
-use Rattle.vk_ast.specs.Statements.{StmtTree, StmtTrees, no_stmts, more_stmts}
+use Rattle.vk_ast.specs.Statements.{StmtTree, no_stmts, more_stmts}
 use Rattle.vk_tokens.specs.declared.tokens.Mark.{Mark}
 use Rattle.vk_tokens.specs.declared.tokens.Mark.TheVariants as mark
 use Rattle.vk_grammar.specs.declared.symbols.Sym.{Sym}
@@ -19,7 +19,7 @@ use Rattle.vk_grammar.specs.Parser.{Fault, Syntax, Deep, many}
 use Rattle.vk_grammar.specs.Reading.{type_words, nothing, later_argument, some_arguments, arguments, call_of, named, atom, subscript, subscript_step, subscripts, post, group, cast_of, behind_paren, paren, prefix_operand, prefix_sign, unaries, right_operand, operator_step, operators, levels, branches, choices, conditional, climb, onwards, expression}
 use Rattle.vk_stmt_grammar.specs.Words.{same_keyword, is_keyword, name_at, has_const, assign_of, assign_at, step_of, step_at, begins_here, is_stmt_start}
 use Rattle.vk_stmt_grammar.specs.Trees.{Clauses, directive_at}
-use Rattle.vk_stmt_grammar.specs.Reading.{no_level, cond, unary, condition, optional, step_before, assigned, stepped, valued, behind_operand, act, part, initial, named_local, local, later_local, local_list, locals, one_locals, jump, returned, block, else_part, choice, while_loop, do_loop, first_part, for_rest, for_loop, simd_line, lost_line, plain, one_statement, one_entry, statement, entry, whole_statement}
+use Rattle.vk_stmt_grammar.specs.Reading.{no_level, cond, unary, condition, optional, step_before, assigned, stepped, valued, behind_operand, act, part, initial, named_local, local, later_local, local_list, locals, one_locals, jump, returned, block, else_part, choice, while_loop, do_loop, first_part, for_rest, for_loop, simd_line, lost_line, plain, one_statement, one_entry, statement, whole_statement}
 
 abbrev sym : ℕ → SymKind → Sym
 sym at kind = record { line = 1; at = at; kind = kind }
@@ -91,16 +91,22 @@ a_block_too_many a b c = refl
 -- for (int i = a, j; ; ) ;
 head_of_for : (a i j : NameId) → reads 65 (is_word 0 keyword.For ∷ is_mark 1 mark.OpenParen ∷ sym 2 (kind.TypeWord word.Int) ∷ is_name 3 i ∷ is_mark 4 mark.Assign ∷ is_name 5 a ∷ is_mark 6 mark.Comma ∷ is_name 7 j
     ∷ is_mark 8 mark.Semicolon ∷ is_mark 9 mark.Semicolon ∷ is_mark 10 mark.CloseParen ∷ is_mark 11 mark.Semicolon ∷ [])
-    ≡ Ok (StmtTree.for_loop 1 0 (StmtTree.block 1 2 (more_stmts (StmtTree.local 1 3 I32 false i (Some (Tree.name 1 5 a))) (more_stmts (StmtTree.local 1 7 I32 false j None) no_stmts))) None
-        (StmtTree.empty 1 10) (StmtTree.empty 1 11), [])
+    ≡ Ok (
+      StmtTree.for_loop 1 0 (StmtTree.block 1 2 (more_stmts (StmtTree.local 1 3 I32 false i (Some (Tree.name 1 5 a))) (more_stmts (StmtTree.local 1 7 I32 false j None) no_stmts))) None
+          (StmtTree.empty 1 10) (StmtTree.empty 1 11),
+      [],
+    )
 unfolding reads
 head_of_for a i j = refl
 
 -- a line of a directive that is lost in a block, and one before a loop
 lines_of_directives : (a : NameId) → reads 65 (is_mark 0 mark.OpenBrace ∷ sym 1 (kind.Simdfn 1) ∷ sym 2 (kind.Simd 2) ∷ is_word 3 keyword.While ∷ is_mark 4 mark.OpenParen ∷ is_name 5 a ∷ is_mark 6 mark.CloseParen
     ∷ is_word 7 keyword.Break ∷ is_mark 8 mark.Semicolon ∷ is_mark 9 mark.CloseBrace ∷ [])
-    ≡ Ok (StmtTree.block 1 0 (more_stmts (StmtTree.lost 1 1 (directive_at bare_lines (sym 1 (kind.Simdfn 1)) 1))
-        (more_stmts (StmtTree.simd 1 2 (directive_at bare_lines (sym 2 (kind.Simd 2)) 2) (StmtTree.while_loop 1 3 (Tree.name 1 5 a) (StmtTree.break_loop 1 7))) no_stmts)), [])
+    ≡ Ok (
+      StmtTree.block 1 0 (more_stmts (StmtTree.lost 1 1 (directive_at bare_lines (sym 1 (kind.Simdfn 1)) 1))
+          (more_stmts (StmtTree.simd 1 2 (directive_at bare_lines (sym 2 (kind.Simd 2)) 2) (StmtTree.while_loop 1 3 (Tree.name 1 5 a) (StmtTree.break_loop 1 7))) no_stmts)),
+      [],
+    )
 unfolding reads
 lines_of_directives a = refl
 

@@ -1,5 +1,5 @@
 -- More turns, more levels of statements and more levels of expressions change no answer but one that was cut short.
-use Rattle.std.proofs.Common.{◌≡◌, ℕ, zero, suc, ◌≤◌, Bool, true, false, ◌||◌, nat_lt, nat_le, ◌⊎◌, inl, inr, List, [], ◌∷◌, length, Option, Some, None, Result, Ok, Err, refl, sym, ap, ◌∙◌, subst, arith, true≢false, le_trans, le-leb, leb-true, suc-le-suc, suc-ne-zero}
+use Rattle.std.proofs.Common.{◌≡◌, ℕ, zero, suc, ◌≤◌, Bool, true, false, ◌||◌, nat_lt, nat_le, ◌⊎◌, inl, inr, List, [], ◌∷◌, length, Option, Some, None, Err, refl, sym, ap, ◌∙◌, subst, arith, true≢false, le_trans, le-leb, leb-true, suc-le-suc}
 use Rattle.vk_types.specs.declared.types.Ty.{Ty}
 use Rattle.vk_ast.specs.declared.expressions.BinOp.{BinOp}
 use Rattle.vk_ast.specs.Tree.{Tree}
@@ -10,16 +10,16 @@ use Rattle.vk_grammar.specs.declared.symbols.Sym.{Sym}
 use Rattle.vk_grammar.specs.declared.symbols.SymKind.{SymKind}
 use Rattle.vk_grammar.specs.declared.symbols.SymKind.TheVariants as kind
 use Rattle.vk_grammar.specs.declared.symbols.Keyword.TheVariants as keyword
-use Rattle.vk_grammar.specs.Symbols.{head, line_at, number_at, is_sign, same_mark, is_type_part, is_start}
+use Rattle.vk_grammar.specs.Symbols.{head, is_sign, same_mark, is_type_part, is_start}
 use Rattle.vk_grammar.specs.Types.{type_in}
 use Rattle.vk_grammar.specs.Grammar.{Tall, level, full}
-use Rattle.vk_grammar.specs.Parser.{Fault, Syntax, Deep, Spent, Parser, pure, then_do, ◌>>=◌, take, expect, many}
+use Rattle.vk_grammar.specs.Parser.{Syntax, Parser, pure, then_do, take, expect}
 use Rattle.vk_grammar.specs.Reading.{type_words, expression}
-use Rattle.vk_grammar.proofs.Grown.{IsCut, Grows, Room, same_grows, bind_grows, look_grows, here_grows, pick_grows, limit_grows, pick_some_grows, choose_grows, choose_some_grows, many_grows, height_grows, expression_grows, refused, lower_room}
+use Rattle.vk_grammar.proofs.Grown.{IsCut, Grows, Room, same_grows, bind_grows, look_grows, here_grows, limit_grows, pick_some_grows, choose_grows, choose_some_grows, many_grows, height_grows, expression_grows, refused, lower_room}
 use Rattle.vk_grammar.proofs.Climb.{onwards_grow}
 use Rattle.vk_stmt_grammar.specs.Words.{is_keyword, name_at, has_const, assign_at, step_at, step_of, begins_here, is_stmt_start}
 use Rattle.vk_stmt_grammar.specs.Trees.{Clauses, single}
-use Rattle.vk_stmt_grammar.specs.Reading.{is_not, no_level, cond, unary, condition, optional, step_before, assigned, stepped, valued, behind_operand, act, part, initial, named_local, local, later_local, local_list, locals, one_locals, jump, returned, block, else_part, choice, while_loop, do_loop, first_part, for_rest, for_loop, simd_line, lost_line, deeper, plain_at, plain, one_statement, one_entry, statement, entry, body}
+use Rattle.vk_stmt_grammar.specs.Reading.{is_not, no_level, cond, unary, condition, optional, step_before, assigned, stepped, valued, behind_operand, act, part, initial, named_local, local, later_local, local_list, locals, one_locals, jump, returned, block, else_part, choice, while_loop, do_loop, first_part, for_rest, for_loop, simd_line, lost_line, plain_at, plain, one_statement, one_entry, statement, entry, body}
 
 -- whether several names may stand
 pub record Rooms (deep b c : Bool) : Type 0 where

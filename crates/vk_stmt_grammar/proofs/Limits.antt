@@ -1,7 +1,6 @@
 -- What the reader of statements takes is within its limits, and its loops have turns enough.
-use Rattle.std.proofs.Common.{◌≡◌, ◌≤◌, ◌<◌, ℕ, zero, suc, max, Bool, true, false, nat_lt, List, [], ◌∷◌, ◌++◌, length, Option, Some, None, refl, sym, ap, ◌∙◌, subst, append_assoc, arith, true≢false, leb-true}
+use Rattle.std.proofs.Common.{◌≡◌, ◌≤◌, ◌<◌, ℕ, zero, suc, Bool, true, false, nat_lt, List, [], ◌∷◌, ◌++◌, Some, refl, sym, ◌∙◌, subst, arith, true≢false, leb-true}
 use Rattle.vk_types.specs.declared.types.Ty.{Ty}
-use Rattle.vk_ast.specs.declared.expressions.BinOp.{BinOp}
 use Rattle.vk_ast.specs.Tree.{Tree}
 use Rattle.vk_ast.specs.Statements.{StmtTree}
 use Rattle.vk_tokens.specs.declared.tokens.Mark.{Mark}
@@ -11,24 +10,24 @@ use Rattle.vk_grammar.specs.declared.symbols.SymKind.{SymKind}
 use Rattle.vk_grammar.specs.declared.symbols.SymKind.TheVariants as kind
 use Rattle.vk_grammar.specs.declared.symbols.Keyword.TheVariants as keyword
 use Rattle.vk_grammar.specs.Symbols.{head, line_at, number_at, Is, IsSign, is_sign, is_type_part}
-use Rattle.vk_grammar.specs.Types.{IsType, type_in}
+use Rattle.vk_grammar.specs.Types.{type_in}
 use Rattle.vk_grammar.specs.Grammar.{Tall, Sort, level, full, Spells}
-use Rattle.vk_grammar.specs.Parser.{Parser, pure, ◌>>=◌, pick_some, many}
+use Rattle.vk_grammar.specs.Parser.{Parser, pure, pick_some, many}
 use Rattle.vk_grammar.specs.Reading.{type_words, expression}
 use Rattle.vk_grammar.proofs.Starts.{Starts, Spelled, spelled_starts}
 use Rattle.vk_grammar.proofs.Sound.{IsTypeText, type_words_follows, expression_follows}
 use Rattle.vk_grammar.proofs.Signs.{sign_kind}
 use Rattle.vk_stmt_grammar.proofs.Sound.{brace_no_type}
-use Rattle.vk_grammar.proofs.Heights.{Within, Any, Keeps, expression_keeps, type_words_keep}
+use Rattle.vk_grammar.proofs.Heights.{Within, Any, expression_keeps, type_words_keep}
 use Rattle.vk_grammar.proofs.Climb.{onwards_follows, onwards_keep}
 use Rattle.vk_stmt_grammar.specs.Words.{IsKeyword, is_keyword, name_at, has_const, assign_at, step_at, is_stmt_start}
-use Rattle.vk_stmt_grammar.specs.Trees.{Clauses, directive_at, stmts_in, joined, single, unit_at, is_open, levels_of, all_levels}
-use Rattle.vk_stmt_grammar.specs.Grammar.{InParens, in_parens, IsOptional, left_out, given, IsAct, a_step_before, a_step_behind, a_value, IsPart, no_act, an_act, IsNamed, AreNamed, none_named, more_named, AreLocals, IsFirst, first_act, IsBlock, in_braces, IsPlain, a_block, a_part, an_if, a_while, a_break, a_continue, a_return, a_simd, a_lost_line, IsStmt, a_plain, IsEntry, plain_entry, locals_entry, AreEntries, no_entries, more_entries}
+use Rattle.vk_stmt_grammar.specs.Trees.{Clauses, stmts_in, joined, single, is_open, levels_of, all_levels}
+use Rattle.vk_stmt_grammar.specs.Grammar.{InParens, in_parens, IsOptional, left_out, given, IsAct, a_step_before, a_step_behind, a_value, IsPart, no_act, an_act, IsNamed, AreNamed, none_named, AreLocals, IsFirst, first_act, IsBlock, in_braces, IsPlain, a_block, a_part, an_if, a_while, a_break, a_continue, a_return, a_simd, a_lost_line, IsStmt, a_plain, IsEntry, plain_entry, locals_entry, AreEntries, no_entries, more_entries}
 use Rattle.vk_stmt_grammar.specs.Reading.{is_not, no_level, cond, unary, condition, optional, step_before, assigned, stepped, valued, behind_operand, act, part, initial, named_local, local, later_local, local_list, locals, one_locals, jump, returned, block, else_part, choice, while_loop, do_loop, first_part, for_rest, for_loop, simd_line, lost_line, deeper, plain_at, plain, one_statement, one_entry, statement, entry, body}
 use Rattle.vk_stmt_grammar.proofs.Signs.{Parted, not_true}
 use Rattle.vk_stmt_grammar.proofs.Forms.{an_assign, IsInitial, not_initial, an_initial, initialised, IsLater, later, later_joined, AreNames, names, declared, locals_parted, AreOne, one_of, locals_stmt, locals_first, an_else, do_as, for_as, starts_parted, entry_parted}
 use Rattle.vk_stmt_grammar.proofs.Closed.{OnOk, Gives, Shut, statement_shuts}
-use Rattle.vk_stmt_grammar.proofs.Taken.{Takes, Taken, pure_takes, refuse_takes, deep_takes, pick_takes, pick_some_takes, look_takes, choose_takes, choose_some_takes, into_takes, tail_takes, bind_takes, bind_is_takes, seq_takes, take_takes, take_sign_takes, take_word_takes, take_name_takes, take_assign_takes, take_step_takes, expect_takes, expect_word_takes, then_expect_takes, here_then_takes, many_takes, both_take}
+use Rattle.vk_stmt_grammar.proofs.Taken.{Takes, pure_takes, refuse_takes, deep_takes, pick_takes, pick_some_takes, look_takes, choose_takes, choose_some_takes, into_takes, tail_takes, bind_takes, bind_is_takes, seq_takes, take_takes, take_sign_takes, take_word_takes, take_name_takes, take_assign_takes, take_step_takes, expect_takes, expect_word_takes, then_expect_takes, here_then_takes, many_takes, both_take}
 
 -- of some height of at most `e`, and such that `P`
 pub record Fits {A : Type 0} (R : A → ℕ → List Sym → Type 0) (P : A → Type 0) (e : ℕ) (a : A) (u : List Sym) : Type 0 where
@@ -157,10 +156,12 @@ module _ (e turns : ℕ) where
       (λ j. deep_takes)
 
   later_list_takes : (room : Bool) (ty : Ty) (fixed : Bool) (w : List Sym) → Takes turns (Fits (AreNamed ty fixed) (Later room) (suc e)) [] (many turns (is_sign mark.Comma) (later_local e turns room ty fixed)) w
-  later_list_takes room ty fixed w = record { takes = λ l. (many_takes {S = Fits (IsLater ty fixed) (Behind room) (suc e)} {L = Fits (AreNamed ty fixed) (Later room) (suc e)} (is_sign mark.Comma) (later_local e turns room ty fixed)
-      (fit 0 none_named (omega arith) (record { low = omega arith; none_ = λ f. refl }))
-      (λ s list x y a b. fit _ (later_joined a.is b.is) (omega (arith, a.most, b.most)) (record { low = omega (arith, a.fits.0, b.fits.low); none_ = λ f. absurd (true≢false (sym a.fits.1 ∙ f)) }))
-      (λ s x a. later_parted a.is) (later_takes room ty fixed) turns w l).takes l }
+  later_list_takes room ty fixed w = record {
+    takes = λ l. (many_takes {S = Fits (IsLater ty fixed) (Behind room) (suc e)} {L = Fits (AreNamed ty fixed) (Later room) (suc e)} (is_sign mark.Comma) (later_local e turns room ty fixed)
+        (fit 0 none_named (omega arith) (record { low = omega arith; none_ = λ f. refl }))
+        (λ s list x y a b. fit _ (later_joined a.is b.is) (omega (arith, a.most, b.most)) (record { low = omega (arith, a.fits.0, b.fits.low); none_ = λ f. absurd (true≢false (sym a.fits.1 ∙ f)) }))
+        (λ s x a. later_parted a.is) (later_takes room ty fixed) turns w l).takes l;
+  }
     where
       later_parted : {ty : Ty} {fixed : Bool} {s : StmtTree} {h : ℕ} {x : List Sym} → IsLater ty fixed s h x → Parted x
       later_parted (later {t = t} {x = x} i d) = record { first = t; others = x; parts = refl }
@@ -212,8 +213,10 @@ module _ (clauses : Clauses) (e d turns : ℕ) (sub : Parser StmtTree) (sub_entr
   Entries lists = Fits (AreEntries clauses) (AllAt d) (suc e) (joined lists)
 
   entries_take : (w : List Sym) → Takes turns Entries [] (many turns (is_not mark.CloseBrace) sub_entry) w
-  entries_take w = record { takes = λ l. (many_takes {S = Fits (IsEntry clauses) (AllAt d) (suc e)} {L = Entries} (is_not mark.CloseBrace) sub_entry (fit 0 no_entries (omega arith) (omega arith))
-      (λ list lists x y a b. fit _ (more_entries a.is b.is) (omega (arith, a.most, b.most)) (all_joined d list (joined lists) a.fits b.fits)) (λ list x a. entry_parted a.is) (λ w i. entries w) turns w l).takes l }
+  entries_take w = record {
+    takes = λ l. (many_takes {S = Fits (IsEntry clauses) (AllAt d) (suc e)} {L = Entries} (is_not mark.CloseBrace) sub_entry (fit 0 no_entries (omega arith) (omega arith))
+        (λ list lists x y a b. fit _ (more_entries a.is b.is) (omega (arith, a.most, b.most)) (all_joined d list (joined lists) a.fits b.fits)) (λ list x a. entry_parted a.is) (λ w i. entries w) turns w l).takes l;
+  }
 
   block_takes : (t : Sym) (r : List Sym) → IsSign mark.OpenBrace t → Takes turns (Fits (IsBlock clauses) (At (suc d)) (suc e)) [] (block clauses e d turns sub sub_entry) (t ∷ r)
   unfolding block

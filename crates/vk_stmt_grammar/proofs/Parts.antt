@@ -1,5 +1,5 @@
 -- Each text without statements in it is read as its tree: conditions, assignments, declarations.
-use Rattle.std.proofs.Common.{◌≡◌, ◌≤◌, ◌<◌, ℕ, zero, suc, max, Bool, true, false, ◌⊎◌, inl, inr, List, [], ◌∷◌, ◌++◌, length, Option, Some, None, Result, Ok, Err, refl, sym, ap, ◌∙◌, subst, append_assoc, append-nil, length-append, arith, true≢false}
+use Rattle.std.proofs.Common.{◌≡◌, ◌≤◌, ◌<◌, ℕ, zero, suc, Bool, true, false, List, [], ◌∷◌, ◌++◌, length, Option, Some, None, Result, Ok, Err, refl, sym, ap, ◌∙◌, subst, append_assoc, length-append, arith, true≢false}
 use Rattle.vk_types.specs.declared.types.Ty.{Ty}
 use Rattle.vk_ast.specs.declared.names.NameId.{NameId}
 use Rattle.vk_ast.specs.declared.expressions.BinOp.{BinOp}
@@ -10,24 +10,24 @@ use Rattle.vk_tokens.specs.declared.tokens.Mark.TheVariants as mark
 use Rattle.vk_grammar.specs.declared.symbols.Sym.{Sym}
 use Rattle.vk_grammar.specs.declared.symbols.SymKind.{SymKind}
 use Rattle.vk_grammar.specs.declared.symbols.SymKind.TheVariants as kind
-use Rattle.vk_grammar.specs.Symbols.{head, line_at, number_at, Is, IsSign, is_sign, same_mark, operator_of, operator_at, is_type_part, is_start}
-use Rattle.vk_grammar.specs.Types.{IsType, type_in}
-use Rattle.vk_grammar.specs.Grammar.{Tall, tall, Sort, level, full, Spells}
-use Rattle.vk_grammar.specs.Parser.{Fault, Parser, pure, then_do, ◌>>=◌, pick, pick_some, expect, many}
-use Rattle.vk_grammar.specs.Reading.{type_words, unaries, levels, conditional, onwards, expression}
+use Rattle.vk_grammar.specs.Symbols.{head, line_at, number_at, Is, IsSign, is_sign, same_mark, operator_of, is_type_part, is_start}
+use Rattle.vk_grammar.specs.Types.{type_in}
+use Rattle.vk_grammar.specs.Grammar.{Tall, tall, level, full, Spells}
+use Rattle.vk_grammar.specs.Parser.{Fault, then_do, many}
+use Rattle.vk_grammar.specs.Reading.{type_words, unaries, levels, onwards, expression}
 use Rattle.vk_grammar.proofs.Signs.{sign_kind, sign_is}
 use Rattle.vk_grammar.proofs.Starts.{Starts, spelled_starts}
-use Rattle.vk_grammar.proofs.Stops.{StopsAt, StopsAll, Stops, sign_stops, close_paren_stops, close_bracket_stops, comma_stops, start_no_sign}
+use Rattle.vk_grammar.proofs.Stops.{StopsAt, StopsAll, sign_stops, close_paren_stops, comma_stops, start_no_sign}
 use Rattle.vk_grammar.proofs.Equations
 use Rattle.vk_grammar.proofs.Climb.{conditional_onwards, onwards_end}
 use Rattle.vk_grammar.proofs.Whole.{reads_whole}
-use Rattle.vk_stmt_grammar.specs.Words.{IsKeyword, is_keyword, name_at, has_const, assign_of, assign_at, IsAssign, step_of, step_at, IsStep}
+use Rattle.vk_stmt_grammar.specs.Words.{name_at, has_const, assign_of, assign_at, step_of, step_at, IsStep}
 use Rattle.vk_stmt_grammar.specs.Trees.{stmts_in, single, unit_at, levels_of, all_levels}
 use Rattle.vk_stmt_grammar.specs.Grammar
 use Rattle.vk_stmt_grammar.specs.Grammar.{InParens, in_parens, IsOptional, left_out, given, IsAct, an_assignment, a_step_before, a_step_behind, a_value, IsPart, no_act, an_act, IsNamed, bare, with_value, AreNamed, none_named, more_named, AreLocals, IsFirst, first_act, first_locals}
 use Rattle.vk_stmt_grammar.specs.Reading.{cond, unary, condition, optional, step_before, assigned, stepped, valued, behind_operand, act, part, initial, named_local, local, later_local, local_list, locals, one_locals}
 use Rattle.vk_stmt_grammar.proofs.Signs.{Parted}
-use Rattle.vk_stmt_grammar.proofs.Forms.{starts_parted, act_parted, locals_parted}
+use Rattle.vk_stmt_grammar.proofs.Forms.{starts_parted, locals_parted}
 
 -- ---- first tokens
 
@@ -288,8 +288,10 @@ module _ (e turns : ℕ) where
   list_reads : {ty : Ty} {fixed : Bool} {s : StmtTree} {h : ℕ} {list : List StmtTree} {k : ℕ} {x y : List Sym} {v : Sym} (room : Bool) (r : List Sym) → IsNamed ty fixed s h x → AreNamed ty fixed list k y → (room ≡ false → list ≡ [])
       → h ≤ suc e → k ≤ suc e → length x < turns → length y < turns → IsSign mark.Semicolon v → local_list e turns room ty fixed (x ++ (y ++ (v ∷ r))) ≡ Ok (s ∷ list, v ∷ r)
   unfolding local_list
-  list_reads {y = y} {v = v} room r d rest alone hi ki lx ly shuts = rw (local_reads (y ++ (v ∷ r)) d hi lx (named_behind (v ∷ r) rest (semicolon_behind shuts)),
-      named_read room turns (v ∷ r) rest alone ki ly ly (semicolon_behind shuts) (no_comma shuts)) refl
+  list_reads {y = y} {v = v} room r d rest alone hi ki lx ly shuts = rw (
+    local_reads (y ++ (v ∷ r)) d hi lx (named_behind (v ∷ r) rest (semicolon_behind shuts)),
+    named_read room turns (v ∷ r) rest alone ki ly ly (semicolon_behind shuts) (no_comma shuts),
+  ) refl
 
   name_no_type : {ty : Ty} {fixed : Bool} {s : StmtTree} {h : ℕ} {x : List Sym} (r : List Sym) → IsNamed ty fixed s h x → is_type_part (head (x ++ r)) ≡ false
   unfolding is_type_part

@@ -1,6 +1,6 @@
 -- A reader of whole texts that has the laws: what it tells, against all texts of its grammar. It is given by how many turns
 -- its loops have; `R` is its relation, and `Kept` the relation within its limits.
-use Rattle.std.proofs.Common.{◌≡◌, ◌+◌, ◌≤◌, ◌<◌, ℕ, zero, suc, Bool, true, false, ◌⊎◌, inl, inr, List, [], ◌∷◌, ◌++◌, length, Result, Ok, Err, refl, sym, ap, ◌∙◌, subst, append-nil, arith, true≢false}
+use Rattle.std.proofs.Common.{◌≡◌, ◌+◌, ◌≤◌, ◌<◌, ℕ, suc, Bool, true, false, ◌⊎◌, inl, inr, List, [], ◌∷◌, length, Result, Ok, Err, sym, ap, ◌∙◌, subst, append-nil, arith, true≢false}
 use Rattle.vk_grammar.specs.declared.symbols.Sym.{Sym}
 use Rattle.vk_grammar.specs.Parser.{Fault, Syntax, Deep, Spent, Parser, then_do, at_end, whole}
 use Rattle.vk_grammar.specs.Texts.{IsPlace, IsDeepPlace}

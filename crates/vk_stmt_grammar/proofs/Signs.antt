@@ -1,5 +1,5 @@
 -- Tokens that are known by a test of the first one, and the least texts that complete one that was begun.
-use Rattle.std.proofs.Common.{◌≡◌, ℕ, Bool, true, false, List, [], ◌∷◌, ◌++◌, Option, Some, None, refl, sym, ap, ◌∙◌, subst, append_assoc, true≢false}
+use Rattle.std.proofs.Common.{◌≡◌, ℕ, Bool, true, false, List, [], ◌∷◌, ◌++◌, Option, Some, refl, sym, ap, ◌∙◌, subst, true≢false}
 use denote.Enum.Bare.{same_true, true_same}
 use Rattle.vk_ast.specs.declared.names.NameId.{NameId}
 use Rattle.vk_ast.specs.declared.expressions.BinOp.{BinOp}
@@ -9,7 +9,7 @@ use Rattle.vk_grammar.specs.declared.symbols.Sym.{Sym}
 use Rattle.vk_grammar.specs.declared.symbols.SymKind.{SymKind}
 use Rattle.vk_grammar.specs.declared.symbols.SymKind.TheVariants as kind
 use Rattle.vk_grammar.specs.Symbols.{head, line_at, number_at, Is}
-use Rattle.vk_grammar.specs.Parser.{Parser, ◌>>=◌, take, here, refuse}
+use Rattle.vk_grammar.specs.Parser.{Parser, ◌>>=◌, take, here}
 use Rattle.vk_grammar.proofs.Steps.{Follows, Goes, goes, take_follows, token_follows, refuse_follows, choose_follows, bind_follows, here_follows}
 use Rattle.vk_stmt_grammar.specs.Words.{IsKeyword, same_keyword, is_keyword, name_at, assign_at, IsAssign, step_at, IsStep}
 use Rattle.vk_stmt_grammar.specs.Reading.{expect_word}

@@ -1,8 +1,6 @@
 -- What the reader of statements tells follows the grammar: the laws of `Steps` of expressions, function by function.
-use Rattle.std.proofs.Common.{◌≡◌, ℕ, zero, suc, max, Bool, true, false, nat_lt, List, [], ◌∷◌, ◌++◌, Option, Some, None, Ok, refl, sym, ap, ◌∙◌, subst, append_assoc, true≢false}
+use Rattle.std.proofs.Common.{◌≡◌, ℕ, zero, suc, Bool, true, false, nat_lt, List, [], ◌∷◌, ◌++◌, Some, None, refl, sym, ap, ◌∙◌, subst, append_assoc, true≢false}
 use Rattle.vk_types.specs.declared.types.Ty.{Ty}
-use Rattle.vk_ast.specs.declared.names.NameId.{NameId}
-use Rattle.vk_ast.specs.declared.expressions.BinOp.{BinOp}
 use Rattle.vk_ast.specs.Tree.{Tree}
 use Rattle.vk_ast.specs.Statements.{StmtTree}
 use Rattle.vk_tokens.specs.declared.tokens.Mark.{Mark}
@@ -12,24 +10,23 @@ use Rattle.vk_grammar.specs.declared.symbols.SymKind.{SymKind}
 use Rattle.vk_grammar.specs.declared.symbols.SymKind.TheVariants as kind
 use Rattle.vk_grammar.specs.declared.symbols.Keyword.TheVariants as keyword
 use Rattle.vk_grammar.specs.Symbols.{head, line_at, number_at, Is, IsSign, is_sign, is_type_part}
-use Rattle.vk_grammar.specs.Types.{IsType, type_in, AreTypeParts, no_parts, a_part, words_of, has_words}
-use Rattle.vk_grammar.specs.Grammar.{Tall, tall, level, full, Spells}
-use Rattle.vk_grammar.specs.Parser.{Parser, pure, ◌>>=◌, take, pick, pick_some, many}
-use Rattle.vk_grammar.specs.Reading.{type_words, expression}
+use Rattle.vk_grammar.specs.Types.{type_in, a_part}
+use Rattle.vk_grammar.specs.Grammar.{Tall, level, full, Spells}
+use Rattle.vk_grammar.specs.Parser.{Parser, pure, pick_some, many}
+use Rattle.vk_grammar.specs.Reading.{expression}
 use Rattle.vk_grammar.proofs.Steps.{Follows, Goes, goes, finished, pure_follows, refuse_follows, deep_follows, pick_follows, pick_some_follows, look_follows, choose_follows, choose_some_follows, into_follows, bind_follows, bind_is_follows, seq_follows, take_follows, tail_follows, many_follows}
 use Rattle.vk_grammar.proofs.Signs.{sign_kind, sign_of, sign_of_is, take_sign_follows, sign_deep_follows, expect_follows, then_expect_follows}
-use Rattle.vk_grammar.proofs.Starts.{Starts, spelled_starts, zero_sym, zero_tree, zero_tall, zero_spelled, in_sort, Spelled}
+use Rattle.vk_grammar.proofs.Starts.{spelled_starts, zero_sym, zero_tree, zero_spelled, in_sort, Spelled}
 use Rattle.vk_grammar.proofs.Sound.{here_bind_follows, IsTypeText, type_words_follows, expression_follows}
 use Rattle.vk_grammar.proofs.Climb.{onwards_follows}
-use Rattle.vk_stmt_grammar.specs.Words.{IsKeyword, is_keyword, name_at, has_const, assign_at, IsAssign, step_at, IsStep, begins_here, is_stmt_start}
+use Rattle.vk_stmt_grammar.specs.Words.{IsKeyword, is_keyword, name_at, has_const, assign_at, step_at, begins_here, is_stmt_start}
 use Rattle.vk_stmt_grammar.specs.Trees.{Clauses, directive_at, stmts_in, joined, single, unit_at, is_open}
-use Rattle.vk_stmt_grammar.specs.Grammar
-use Rattle.vk_stmt_grammar.specs.Grammar.{InParens, in_parens, IsOptional, left_out, given, IsAct, an_assignment, a_step_before, a_step_behind, a_value, IsPart, no_act, an_act, IsNamed, bare, with_value, AreNamed, none_named, more_named, AreLocals, IsFirst, first_act, first_locals, IsBlock, in_braces, IsPlain, a_block, a_part, an_if, an_if_else, a_while, a_do, a_for, a_break, a_continue, a_return, a_simd, a_lost_line, IsStmt, a_plain, some_locals, IsEntry, plain_entry, locals_entry, AreEntries, no_entries, more_entries}
+use Rattle.vk_stmt_grammar.specs.Grammar.{InParens, in_parens, IsOptional, left_out, given, IsAct, a_step_before, a_step_behind, a_value, IsPart, no_act, an_act, IsNamed, bare, AreNamed, none_named, AreLocals, IsFirst, first_act, IsBlock, in_braces, IsPlain, a_block, a_part, an_if, a_while, a_for, a_break, a_continue, a_return, a_simd, a_lost_line, IsStmt, a_plain, IsEntry, plain_entry, locals_entry, AreEntries, no_entries, more_entries}
 use Rattle.vk_stmt_grammar.specs.Reading.{is_not, no_level, cond, unary, condition, optional, step_before, assigned, stepped, valued, behind_operand, act, part, initial, named_local, local, later_local, local_list, locals, one_locals, jump, returned, block, else_part, choice, while_loop, do_loop, first_part, for_rest, for_loop, simd_line, lost_line, deeper, plain_at, plain, one_statement, one_entry, statement, entry, body}
 use Rattle.vk_stmt_grammar.proofs.Starts.{semicolon, empty_tree, empty_stmt, zero_parens, zero_condition, no_name, name_sym, if_goes, while_goes, do_goes, for_goes, simd_goes, no_stmt_follows, no_entry_follows}
 use Rattle.vk_stmt_grammar.proofs.Closed.{OnOk, Gives, Shut, statement_shuts}
 use Rattle.vk_stmt_grammar.proofs.Forms.{an_assign, IsInitial, not_initial, an_initial, initialised, IsLater, later, later_joined, AreNames, names, declared, locals_parted, AreOne, one_of, locals_stmt, locals_first, an_else, do_as, for_as}
-use Rattle.vk_stmt_grammar.proofs.Signs.{Has, has, take_word_follows, word_of, word_of_is, expect_word_follows, take_name_follows, take_assign_follows, take_step_follows, Parted, here_then_follows, not_true}
+use Rattle.vk_stmt_grammar.proofs.Signs.{Has, has, take_word_follows, word_of, word_of_is, expect_word_follows, take_name_follows, take_assign_follows, take_step_follows, here_then_follows, not_true}
 
 module _ (e turns : ℕ) where
   pub cond_follows : (w : List Sym) → Follows (Spelled full) [] (cond e turns) w

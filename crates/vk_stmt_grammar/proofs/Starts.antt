@@ -1,22 +1,18 @@
 -- How statements begin: each first token that may begin one does.
-use Rattle.std.proofs.Common.{◌≡◌, ℕ, Bool, true, false, ◌||◌, ◌⊎◌, inl, inr, List, [], ◌∷◌, ◌++◌, Some, None, refl, sym, ap, subst, append_assoc, true≢false}
+use Rattle.std.proofs.Common.{◌≡◌, ℕ, Bool, true, false, ◌||◌, ◌⊎◌, inl, inr, List, [], ◌∷◌, ◌++◌, Some, None, refl, sym, ap, subst, true≢false}
 use Rattle.vk_ast.specs.declared.names.NameId.{NameId}
 use Rattle.vk_ast.specs.declared.expressions.BinOp.{BinOp}
 use Rattle.vk_ast.specs.declared.expressions.BinOp.TheVariants as op
-use Rattle.vk_ast.specs.Tree.{Tree}
 use Rattle.vk_ast.specs.Statements.{StmtTree}
 use Rattle.vk_tokens.specs.declared.tokens.Mark.TheVariants as mark
 use Rattle.vk_grammar.specs.declared.symbols.Sym.{Sym}
 use Rattle.vk_grammar.specs.declared.symbols.SymKind.{SymKind}
 use Rattle.vk_grammar.specs.declared.symbols.SymKind.TheVariants as kind
-use Rattle.vk_grammar.specs.declared.symbols.Keyword.{Keyword}
 use Rattle.vk_grammar.specs.declared.symbols.Keyword.TheVariants as keyword
-use Rattle.vk_grammar.specs.declared.symbols.TypeWord.{TypeWord}
 use Rattle.vk_grammar.specs.declared.symbols.TypeWord.TheVariants as word
-use Rattle.vk_grammar.specs.Symbols.{line_at, number_at, Is, IsSign, is_type_part, is_start}
+use Rattle.vk_grammar.specs.Symbols.{Is, is_type_part, is_start}
 use Rattle.vk_grammar.specs.Types.{IsType, type_in, no_parts, a_part, words_of, word_before, has_words}
-use Rattle.vk_grammar.specs.Grammar.{level, full, Spells}
-use Rattle.vk_grammar.specs.Parser.{refuse}
+use Rattle.vk_grammar.specs.Grammar.{level, full}
 use Rattle.vk_grammar.proofs.Steps.{Follows, Goes, goes, refuse_follows, deep_follows, choose_follows}
 use Rattle.vk_grammar.proofs.Signs.{sign_of, sign_of_is}
 use Rattle.vk_grammar.proofs.Starts.{zero_sym, zero_tree, zero_spelled, Spelled, start_goes}

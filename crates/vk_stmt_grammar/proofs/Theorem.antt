@@ -1,5 +1,5 @@
 -- Whole statements: what is read is the grammar's and within the limits, what is so is read, and faults are at their places.
-use Rattle.std.proofs.Common.{◌≡◌, ◌+◌, ◌≤◌, ◌<◌, ℕ, zero, suc, Bool, true, false, List, [], ◌∷◌, ◌++◌, length, Result, Ok, Err, refl, sym, ap, ◌∙◌, subst, append-nil, arith, true≢false}
+use Rattle.std.proofs.Common.{◌≡◌, ◌+◌, ◌≤◌, ◌<◌, ℕ, suc, Bool, true, false, List, [], length, Ok, Err, refl, sym, ap, ◌∙◌, append-nil, arith, true≢false}
 use Rattle.vk_ast.specs.Statements.{StmtTree}
 use Rattle.vk_grammar.specs.declared.symbols.Sym.{Sym}
 use Rattle.vk_grammar.specs.declared.symbols.Keyword.TheVariants as keyword
@@ -64,3 +64,11 @@ module _ (clauses : Clauses) where
 
   pub ends : (e turns d : ℕ) (ts : List Sym) → length ts < turns → whole_statement clauses e turns d ts ≡ Err Spent → ⊥
   ends e turns d ts l = Readers.ends (is_reader e d) turns ts l
+
+  -- a list of tokens is the text of one statement at most
+  pub one_tree : (ts : List Sym) (a b : StmtTree) (h k : ℕ) → IsStmt clauses a h ts → IsStmt clauses b k ts → a ≡ b
+  one_tree ts a b h k p q =
+      let first = only (h + k) (suc (length ts)) (levels_of a + levels_of b) ts a h p (omega arith) (omega arith) (omega arith) in
+      let second = only (h + k) (suc (length ts)) (levels_of a + levels_of b) ts b k q (omega arith) (omega arith) (omega arith) in
+      let pairs : Path (StmtTree × List Sym) (a, []) (b, []) = cc in
+      ap (λ (z : StmtTree × List Sym). z.0) pairs

@@ -1,31 +1,28 @@
 -- Each text of a statement within the limits is read as its tree.
-use Rattle.std.proofs.Common.{◌≡◌, ◌≤◌, ◌<◌, ℕ, zero, suc, max, ◌+◌, Bool, true, false, ◌||◌, nat_lt, List, [], ◌∷◌, ◌++◌, length, Option, Some, None, Result, Ok, Err, refl, sym, ap, ◌∙◌, subst, append_assoc, append-nil, length-append, arith, true≢false, le-leb}
+use Rattle.std.proofs.Common.{◌≡◌, ◌≤◌, ◌<◌, ℕ, zero, suc, max, ◌+◌, Bool, true, false, nat_lt, List, [], ◌∷◌, ◌++◌, length, Option, Some, Result, Ok, refl, sym, ap, ◌∙◌, subst, append_assoc, append-nil, length-append, arith, true≢false, le-leb}
 use Rattle.vk_ast.specs.declared.expressions.BinOp.{BinOp}
 use Rattle.vk_ast.specs.Tree.{Tree}
 use Rattle.vk_ast.specs.Statements.{StmtTree}
-use Rattle.vk_tokens.specs.declared.tokens.Mark.{Mark}
 use Rattle.vk_tokens.specs.declared.tokens.Mark.TheVariants as mark
 use Rattle.vk_grammar.specs.declared.symbols.Sym.{Sym}
 use Rattle.vk_grammar.specs.declared.symbols.SymKind.{SymKind}
 use Rattle.vk_grammar.specs.declared.symbols.SymKind.TheVariants as kind
-use Rattle.vk_grammar.specs.declared.symbols.Keyword.{Keyword}
 use Rattle.vk_grammar.specs.declared.symbols.Keyword.TheVariants as keyword
-use Rattle.vk_grammar.specs.Symbols.{head, line_at, number_at, Is, IsSign, is_sign, same_mark, is_type_part, is_start}
-use Rattle.vk_grammar.specs.Types.{IsType, type_in}
-use Rattle.vk_grammar.specs.Parser.{Fault, Parser, pure, then_do, ◌>>=◌, many}
+use Rattle.vk_grammar.specs.Symbols.{head, line_at, number_at, Is, IsSign, is_sign, is_type_part, is_start}
+use Rattle.vk_grammar.specs.Parser.{Fault, Parser, many}
 use Rattle.vk_grammar.proofs.Signs.{sign_kind, sign_is}
 use Rattle.vk_grammar.proofs.Starts.{Starts, spelled_starts}
 use Rattle.vk_grammar.proofs.Stops.{start_no_type}
 use Rattle.vk_grammar.proofs.Equations
 use Rattle.vk_stmt_grammar.specs.Words.{IsKeyword, is_keyword, same_keyword, step_of, step_at, IsStep, begins_here}
-use Rattle.vk_stmt_grammar.specs.Trees.{Clauses, directive_at, stmts_in, joined, single, is_open, levels_of, all_levels}
+use Rattle.vk_stmt_grammar.specs.Trees.{Clauses, directive_at, stmts_in, joined, single, is_open, levels_of}
 use Rattle.vk_stmt_grammar.specs.Grammar
 use Rattle.vk_stmt_grammar.specs.Grammar.{InParens, IsOptional, IsAct, an_assignment, a_step_before, a_step_behind, a_value, IsPart, no_act, an_act, AreLocals, IsFirst, first_act, first_locals, IsBlock, in_braces, IsPlain, a_block, a_part, an_if, an_if_else, a_while, a_do, a_for, a_break, a_continue, a_return, a_simd, a_lost_line, IsStmt, a_plain, some_locals, IsEntry, plain_entry, locals_entry, AreEntries, no_entries, more_entries}
 use Rattle.vk_stmt_grammar.specs.Reading.{is_not, condition, optional, part, locals, one_locals, jump, returned, block, else_part, choice, while_loop, do_loop, first_part, for_rest, for_loop, simd_line, lost_line, plain_at, plain, one_statement, one_entry, statement, entry, body}
 use Rattle.vk_stmt_grammar.proofs.Signs.{Parted, keyword_kind, keyword_is}
 use Rattle.vk_stmt_grammar.proofs.Forms.{entry_parted}
 use Rattle.vk_stmt_grammar.proofs.Limits.{AllAt}
-use Rattle.vk_stmt_grammar.proofs.Parts.{locals_levels, semicolon_ends, paren_ends, condition_reads, optional_reads, part_reads, Alone, locals_read, one_locals_read, alone_by, room_alone}
+use Rattle.vk_stmt_grammar.proofs.Parts.{locals_levels, semicolon_ends, paren_ends, condition_reads, optional_reads, part_reads, locals_read, one_locals_read, alone_by, room_alone}
 
 -- ---- first tokens
 
@@ -432,8 +429,10 @@ module _ (clauses : Clauses) where
           (part_reads e turns (q ++ r) paren_ends p (omega (arith, hi)) (omega (arith, size))) (body.reads e turns d r (omega (arith, hi)) (omega (arith, size)) (omega (arith, lv)) shut)
 
   simd_as : {n : ℕ} {t : Sym} {s : StmtTree} {h : ℕ} {x : List Sym} → Is (kind.Simd n) t → StmtAs s h x → PlainAs (StmtTree.simd t.line t.at (directive_at clauses t n) s) h (t ∷ x)
-  simd_as {n} {t} {s} {h} {x} i a = record { reads = λ e turns d r hi l lv shut. simd_reads clauses e d turns (statement clauses e turns d) (entry clauses e turns d) (x ++ r) r i (omega (arith, lv, stmt_levels s))
-      (a.reads e turns d r hi (omega (arith, l)) (omega (arith, lv)) shut) }
+  simd_as {n} {t} {s} {h} {x} i a = record {
+    reads = λ e turns d r hi l lv shut. simd_reads clauses e d turns (statement clauses e turns d) (entry clauses e turns d) (x ++ r) r i (omega (arith, lv, stmt_levels s))
+        (a.reads e turns d r hi (omega (arith, l)) (omega (arith, lv)) shut);
+  }
 
   return_as : {t : Sym} {c : Option Tree} {h : ℕ} {x : List Sym} → IsKeyword keyword.Return t → IsOptional mark.Semicolon c h x → PlainAs (StmtTree.return_value t.line t.at c) h (t ∷ x)
   return_as {x = x} i o = record { reads = λ e turns d r hi l lv shut. return_reads clauses e d turns (statement clauses e turns d) (entry clauses e turns d) (x ++ r) r i (optional_reads e turns r semicolon_ends o hi (omega (arith, l))) }

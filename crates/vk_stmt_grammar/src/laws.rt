@@ -27,3 +27,13 @@ pub fn whole_statements()
     ensures ends { (clauses : Clauses) (e turns d : ℕ) (ts : List Sym) → length ts < turns
         → whole_statement clauses e turns d ts ≡ Err Spent → ⊥ }
 {}
+
+/// A list of tokens is the text of at most one statement. It has at most one place of C5, and none where it is a text.
+pub fn one_statement()
+    ensures tree { (clauses : Clauses) (ts : List Sym) (a b : StmtTree) (h k : ℕ) → IsStmt clauses a h ts
+        → IsStmt clauses b k ts → a ≡ b }
+    ensures place { (clauses : Clauses) (ts : List Sym) (n m : ℕ) → IsPlace (IsStatement clauses) ts n
+        → IsPlace (IsStatement clauses) ts m → n ≡ m }
+    ensures not_both { (clauses : Clauses) (ts : List Sym) (n : ℕ) → IsPlace (IsStatement clauses) ts n
+        → IsStatement clauses ts → ⊥ }
+{}

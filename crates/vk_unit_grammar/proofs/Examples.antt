@@ -4,7 +4,7 @@ use Rattle.vk_types.specs.declared.types.Ty.TheVariants.{I32}
 use Rattle.vk_kinds.specs.declared.heads.CType.TheVariants as ctype
 use Rattle.vk_ast.specs.declared.names.NameId.{NameId}
 use Rattle.vk_ast.specs.Tree.{Tree}
-use Rattle.vk_ast.specs.Statements.{StmtTree, StmtTrees, no_stmts, more_stmts}
+use Rattle.vk_ast.specs.Statements.{StmtTree, no_stmts}
 use Rattle.vk_ast.specs.Units.{ItemTree}
 use Rattle.vk_tokens.specs.declared.tokens.Mark.{Mark}
 use Rattle.vk_tokens.specs.declared.tokens.Mark.TheVariants as mark
@@ -16,7 +16,7 @@ use Rattle.vk_grammar.specs.declared.symbols.Keyword.TheVariants as keyword
 use Rattle.vk_grammar.specs.declared.symbols.TypeWord.TheVariants as word
 use Rattle.vk_grammar.specs.Symbols.{same_mark, is_sign, operator_of, operator_at, prefix_of, prefix_at, is_type_part, is_start}
 use Rattle.vk_grammar.specs.Types.{words_of, type_table, type_of, type_in}
-use Rattle.vk_grammar.specs.Parser.{Fault, Syntax, Deep, many}
+use Rattle.vk_grammar.specs.Parser.{Fault, Syntax, many}
 use Rattle.vk_grammar.specs.Reading.{type_words, nothing, later_argument, some_arguments, arguments, call_of, named, atom, subscript, subscript_step, subscripts, post, group, cast_of, behind_paren, paren, prefix_operand, prefix_sign, unaries, right_operand, operator_step, operators, levels, branches, choices, conditional, climb, onwards, expression}
 use Rattle.vk_stmt_grammar.specs.Words.{same_keyword, is_keyword, name_at, has_const, assign_of, assign_at, step_of, step_at, begins_here, is_stmt_start}
 use Rattle.vk_stmt_grammar.specs.Trees.{Clauses, directive_at}
@@ -64,16 +64,22 @@ object_list a b = refl
 -- int a = 7, b[2] = { 7, };
 initialisers : (a b : NameId) → reads (int 0 ∷ is_name 1 a ∷ is_mark 2 mark.Assign ∷ sym 3 (kind.Int I32 7) ∷ is_mark 4 mark.Comma ∷ is_name 5 b ∷ is_mark 6 mark.OpenBracket ∷ sym 7 (kind.Int I32 2) ∷ is_mark 8 mark.CloseBracket
     ∷ is_mark 9 mark.Assign ∷ is_mark 10 mark.OpenBrace ∷ sym 11 (kind.Int I32 7) ∷ is_mark 12 mark.Comma ∷ is_mark 13 mark.CloseBrace ∷ is_mark 14 mark.Semicolon ∷ [])
-    ≡ Ok (object_tree (record { ty = I32; fixed = false; outside = false }) (at_name 1 a) None (record { items = Some (Tree.int 1 3 I32 7 ∷ []); braced = false; line = 1; token = 3 })
-        ∷ object_tree (record { ty = I32; fixed = false; outside = false }) (at_name 5 b) (Some (Some (Tree.int 1 7 I32 2))) (record { items = Some (Tree.int 1 11 I32 7 ∷ []); braced = true; line = 1; token = 10 }) ∷ [], [])
+    ≡ Ok (
+      object_tree (record { ty = I32; fixed = false; outside = false }) (at_name 1 a) None (record { items = Some (Tree.int 1 3 I32 7 ∷ []); braced = false; line = 1; token = 3 })
+          ∷ object_tree (record { ty = I32; fixed = false; outside = false }) (at_name 5 b) (Some (Some (Tree.int 1 7 I32 2))) (record { items = Some (Tree.int 1 11 I32 7 ∷ []); braced = true; line = 1; token = 10 }) ∷ [],
+      [],
+    )
 unfolding reads
 initialisers a b = refl
 
 -- SIMDFN int f(const int *restrict p, int n[n], int); the line is the function's
 a_declaration : (f p n : NameId) → reads (sym 0 (kind.Simdfn 1) ∷ int 1 ∷ is_name 2 f ∷ is_mark 3 mark.OpenParen ∷ is_word 4 keyword.Const ∷ int 5 ∷ is_mark 6 mark.Star ∷ is_word 7 keyword.Restrict ∷ is_name 8 p
     ∷ is_mark 9 mark.Comma ∷ int 10 ∷ is_name 11 n ∷ is_mark 12 mark.OpenBracket ∷ is_name 13 n ∷ is_mark 14 mark.CloseBracket ∷ is_mark 15 mark.Comma ∷ int 16 ∷ is_mark 17 mark.CloseParen ∷ is_mark 18 mark.Semicolon ∷ [])
-    ≡ Ok (function_tree (at_name 2 f) (directive_at bare_lines (sym 0 (kind.Simdfn 1)) 1 ∷ []) (ctype.Int I32)
-        (with_name (at_name 8 p) (ctype.Ptr I32 false) false ∷ with_name (at_name 11 n) (ctype.Ptr I32 true) false ∷ without_name 1 16 (ctype.Int I32) false ∷ []) None ∷ [], [])
+    ≡ Ok (
+      function_tree (at_name 2 f) (directive_at bare_lines (sym 0 (kind.Simdfn 1)) 1 ∷ []) (ctype.Int I32)
+          (with_name (at_name 8 p) (ctype.Ptr I32 false) false ∷ with_name (at_name 11 n) (ctype.Ptr I32 true) false ∷ without_name 1 16 (ctype.Int I32) false ∷ []) None ∷ [],
+      [],
+    )
 unfolding reads
 a_declaration f p n = refl
 

@@ -1,5 +1,5 @@
 -- The forms of items with their texts grouped to the left, as they are read.
-use Rattle.std.proofs.Common.{◌≡◌, ℕ, max, Bool, true, false, List, [], ◌∷◌, ◌++◌, Option, Some, None, refl, sym, ap, ◌∙◌, subst, append_assoc, append-nil}
+use Rattle.std.proofs.Common.{◌≡◌, ℕ, max, Bool, true, false, List, [], ◌∷◌, ◌++◌, Option, Some, refl, sym, ap, ◌∙◌, subst, append_assoc, append-nil}
 use Rattle.vk_types.specs.declared.types.Ty.{Ty}
 use Rattle.vk_kinds.specs.declared.heads.CType.{CType}
 use Rattle.vk_kinds.specs.declared.heads.CType.TheVariants as ctype
@@ -13,7 +13,7 @@ use Rattle.vk_grammar.specs.declared.symbols.Sym.{Sym}
 use Rattle.vk_grammar.specs.declared.symbols.SymKind.TheVariants as kind
 use Rattle.vk_grammar.specs.declared.symbols.Keyword.TheVariants as keyword
 use Rattle.vk_grammar.specs.Symbols.{line_at, number_at, Is, IsSign}
-use Rattle.vk_grammar.specs.Types.{IsType, type_in}
+use Rattle.vk_grammar.specs.Types.{type_in}
 use Rattle.vk_grammar.specs.Grammar.{full, Spells}
 use Rattle.vk_grammar.proofs.Sound.{IsTypeText}
 use Rattle.vk_stmt_grammar.specs.Words.{IsKeyword, has_const}
@@ -21,8 +21,8 @@ use Rattle.vk_stmt_grammar.specs.Trees.{Clauses, directive_at}
 use Rattle.vk_stmt_grammar.specs.Grammar.{IsOptional}
 use Rattle.vk_stmt_grammar.proofs.Signs.{as_text, Parted}
 use Rattle.vk_stmt_grammar.proofs.Forms.{type_parted}
-use Rattle.vk_unit_grammar.specs.Items.{Named, pointer_to, with_name, function_tree, ObjectType, Initial, object_tree, lost_lines}
-use Rattle.vk_unit_grammar.specs.Grammar.{IsName, a_name, IsExtern, AreLines, AreQualifiers, IsParamRest, an_array, IsParam, a_param, AreMoreParams, IsBody, IsFunction, a_function, AreParams, AreMoreValues, next_value, IsInitial, a_scalar, a_list, AreValues, IsObject, AreMoreObjects, AreObjects, objects, IsItem, void_function, int_function, some_objects, AreItems, next_item}
+use Rattle.vk_unit_grammar.specs.Items.{Named, pointer_to, with_name, function_tree, ObjectType, Initial, lost_lines}
+use Rattle.vk_unit_grammar.specs.Grammar.{IsName, IsExtern, AreLines, AreQualifiers, IsParamRest, an_array, IsParam, a_param, AreMoreParams, IsBody, IsFunction, a_function, AreParams, IsInitial, a_scalar, a_list, AreValues, IsObject, AreMoreObjects, AreObjects, objects, IsItem, void_function, int_function, some_objects, AreItems, next_item}
 
 pub text_parted : {c v : List Sym} → IsTypeText c v → Parted v
 text_parted {v = v} t = subst Parted (append-nil v) (type_parted [] t.type)

@@ -1,5 +1,5 @@
 -- More turns and more levels change no answer but one that was cut short.
-use Rattle.std.proofs.Common.{◌≡◌, ◌≤◌, ℕ, zero, suc, Bool, true, false, List, [], ◌∷◌, ◌++◌, Option, Some, None, arith}
+use Rattle.std.proofs.Common.{◌≤◌, ℕ, zero, suc, Bool, false, List, [], ◌∷◌, Some, arith}
 use Rattle.vk_types.specs.declared.types.Ty.{Ty}
 use Rattle.vk_kinds.specs.declared.heads.CType.{CType}
 use Rattle.vk_kinds.specs.declared.heads.CType.TheVariants as ctype
@@ -8,15 +8,14 @@ use Rattle.vk_ast.specs.Tree.{Tree}
 use Rattle.vk_ast.specs.Directives.{DirectiveTree}
 use Rattle.vk_ast.specs.Units.{ItemTree}
 use Rattle.vk_tokens.specs.declared.tokens.Mark.TheVariants as mark
-use Rattle.vk_grammar.specs.declared.symbols.Sym.{Sym}
 use Rattle.vk_grammar.specs.declared.symbols.Keyword.TheVariants as keyword
-use Rattle.vk_grammar.specs.Symbols.{head, is_sign}
+use Rattle.vk_grammar.specs.Symbols.{is_sign}
 use Rattle.vk_grammar.specs.Types.{type_in}
-use Rattle.vk_grammar.specs.Parser.{Parser, pure, ◌>>=◌, take, pick, many, expect}
+use Rattle.vk_grammar.specs.Parser.{Parser, pure, ◌>>=◌, take, expect}
 use Rattle.vk_grammar.proofs.Grown.{Grows, Room, same_grows, spent_grows, bind_grows, look_grows, here_grows, pick_grows, choose_grows, choose_some_grows, many_grows}
 use Rattle.vk_stmt_grammar.specs.Words.{is_keyword, name_at, has_const}
 use Rattle.vk_stmt_grammar.specs.Trees.{Clauses}
-use Rattle.vk_stmt_grammar.specs.Reading.{cond, optional, body}
+use Rattle.vk_stmt_grammar.specs.Reading.{cond, optional}
 use Rattle.vk_stmt_grammar.proofs.Grown.{type_words_grow, cond_grows, optional_grows, body_grows}
 use Rattle.vk_unit_grammar.specs.Items
 use Rattle.vk_unit_grammar.specs.Items.{Named, is_qualifier, is_line, is_end, pointer_to, with_name, without_name, all_named, function_tree, ObjectType, Initial, no_initial, object_tree, lost_lines}

@@ -1,30 +1,27 @@
 -- What the reader of units takes is within its limits, and its loops have turns enough.
-use Rattle.std.proofs.Common.{◌≡◌, ◌≤◌, ◌<◌, ℕ, zero, suc, max, Bool, true, false, List, [], ◌∷◌, ◌++◌, length, map, Option, Some, None, refl, sym, ap, ◌∙◌, subst, append_assoc, append-nil, length-append, arith, true≢false}
+use Rattle.std.proofs.Common.{◌≡◌, ◌≤◌, ◌<◌, ℕ, zero, suc, Bool, true, false, List, [], ◌∷◌, ◌++◌, length, Option, Some, refl, sym, ap, ◌∙◌, subst, length-append, arith, true≢false}
 use Rattle.vk_types.specs.declared.types.Ty.{Ty}
 use Rattle.vk_kinds.specs.declared.heads.CType.{CType}
 use Rattle.vk_kinds.specs.declared.heads.CType.TheVariants as ctype
 use Rattle.vk_ast.specs.declared.items.ParamDecl.{ParamDecl}
-use Rattle.vk_ast.specs.Tree.{Tree}
 use Rattle.vk_ast.specs.Statements.{StmtTree}
 use Rattle.vk_ast.specs.Directives.{DirectiveTree}
 use Rattle.vk_ast.specs.Units.{ItemTree}
 use Rattle.vk_tokens.specs.declared.tokens.Mark.TheVariants as mark
 use Rattle.vk_grammar.specs.declared.symbols.Sym.{Sym}
-use Rattle.vk_grammar.specs.declared.symbols.SymKind.{SymKind}
-use Rattle.vk_grammar.specs.declared.symbols.SymKind.TheVariants as kind
 use Rattle.vk_grammar.specs.declared.symbols.Keyword.TheVariants as keyword
-use Rattle.vk_grammar.specs.Symbols.{head, line_at, number_at, Is, IsSign, is_sign}
-use Rattle.vk_grammar.specs.Types.{IsType, type_in}
-use Rattle.vk_grammar.specs.Grammar.{Tall, full, Spells}
-use Rattle.vk_grammar.specs.Parser.{Parser, pure, ◌>>=◌, take, pick, many}
+use Rattle.vk_grammar.specs.Symbols.{head, line_at, number_at, IsSign, is_sign}
+use Rattle.vk_grammar.specs.Types.{type_in}
+use Rattle.vk_grammar.specs.Grammar.{full}
+use Rattle.vk_grammar.specs.Parser.{pure, ◌>>=◌, take, pick, many}
 use Rattle.vk_grammar.proofs.Signs.{sign_kind}
 use Rattle.vk_grammar.proofs.Starts.{spelled_starts}
 use Rattle.vk_grammar.proofs.Sound.{IsTypeText}
 use Rattle.vk_grammar.proofs.Heights.{Any}
-use Rattle.vk_stmt_grammar.specs.Words.{IsKeyword, is_keyword, name_at, has_const}
-use Rattle.vk_stmt_grammar.specs.Trees.{Clauses, levels_of}
+use Rattle.vk_stmt_grammar.specs.Words.{is_keyword, name_at, has_const}
+use Rattle.vk_stmt_grammar.specs.Trees.{Clauses}
 use Rattle.vk_stmt_grammar.specs.Grammar.{IsOptional, IsBlock}
-use Rattle.vk_stmt_grammar.specs.Reading.{cond, optional, body}
+use Rattle.vk_stmt_grammar.specs.Reading.{optional}
 use Rattle.vk_stmt_grammar.proofs.Signs.{Parted}
 use Rattle.vk_stmt_grammar.proofs.Forms.{starts_parted}
 use Rattle.vk_stmt_grammar.proofs.Taken.{Takes, pure_takes, refuse_takes, pick_takes, look_takes, choose_takes, choose_some_takes, tail_takes, bind_takes, take_takes, token_takes, take_sign_takes, take_word_takes, take_name_takes, expect_takes, then_expect_takes, here_then_takes, many_takes}
@@ -108,8 +105,10 @@ module _ (e turns : ℕ) where
   qualifier_takes (t ∷ r) i = token_takes (refl, i)
 
   qualifiers_take : (w : List Sym) → Takes turns Forms.QualifierText [] (many turns is_qualifier take) w
-  qualifiers_take w = record { takes = λ l. (many_takes {S = OneQualifier} {L = Forms.QualifierText} is_qualifier take (record { same = refl; are = no_qualifiers }) (qualifier_joined e turns)
-      (λ t x s. record { first = t; others = []; parts = s.0 }) qualifier_takes turns w l).takes l }
+  qualifiers_take w = record {
+    takes = λ l. (many_takes {S = OneQualifier} {L = Forms.QualifierText} is_qualifier take (record { same = refl; are = no_qualifiers }) (qualifier_joined e turns)
+        (λ t x s. record { first = t; others = []; parts = s.0 }) qualifier_takes turns w l).takes l;
+  }
 
   rest_takes : (l k : ℕ) (ty : Ty) (fixed : Bool) (w : List Sym) → Takes turns (Fits (IsParamRest l k ty fixed) Any (suc e)) [] (read.param_rest e turns l k ty fixed) w
   unfolding read.param_rest read.pointer_param
@@ -130,8 +129,10 @@ module _ (e turns : ℕ) where
   later_parted (Forms.later_param {t = t} {x = x} i d) = record { first = t; others = x; parts = refl }
 
   more_params_take : (w : List Sym) → Takes turns (Fits AreMoreParams Any (suc e)) [] (many turns (is_sign mark.Comma) (read.later_param e turns)) w
-  more_params_take w = record { takes = λ l. (many_takes {S = Fits Forms.IsLaterParam Any (suc e)} {L = Fits AreMoreParams Any (suc e)} (is_sign mark.Comma) (read.later_param e turns) (fit 0 Grammar.AreMoreParams.none_more (omega arith) tt)
-      (λ q list y z a b. fit _ (Forms.param_joined a.is b.is) (omega (arith, a.most, b.most)) tt) (λ p x a. later_parted a.is) later_takes turns w l).takes l }
+  more_params_take w = record {
+    takes = λ l. (many_takes {S = Fits Forms.IsLaterParam Any (suc e)} {L = Fits AreMoreParams Any (suc e)} (is_sign mark.Comma) (read.later_param e turns) (fit 0 Grammar.AreMoreParams.none_more (omega arith) tt)
+        (λ q list y z a b. fit _ (Forms.param_joined a.is b.is) (omega (arith, a.most, b.most)) tt) (λ p x a. later_parted a.is) later_takes turns w l).takes l;
+  }
 
   some_take : (w : List Sym) → Takes turns (Fits AreParams Any (suc e)) [] (read.some_params e turns) w
   unfolding read.some_params
@@ -202,9 +203,11 @@ module _ (e turns : ℕ) where
   later_object_parted (Forms.later_object {t = t} {x = x} {y = y} i n d) = record { first = t; others = x ++ y; parts = refl }
 
   more_objects_take : (of : ObjectType) (w : List Sym) → Takes turns (Fits (AreMoreObjects of) (UnitAt 0) (suc e)) [] (many turns (is_sign mark.Comma) (read.later_object e turns of)) w
-  more_objects_take of w = record { takes = λ l. (many_takes {S = Fits (Forms.IsLaterObject of) (ItemAt 0) (suc e)} {L = Fits (AreMoreObjects of) (UnitAt 0) (suc e)} (is_sign mark.Comma) (read.later_object e turns of)
-      (fit 0 Grammar.AreMoreObjects.none_more (omega arith) (omega arith))
-      (λ a list y z p q. fit _ (Forms.object_joined p.is q.is) (omega (arith, p.most, q.most)) (omega (arith, p.fits, q.fits))) (λ a x p. later_object_parted p.is) (later_object_takes of) turns w l).takes l }
+  more_objects_take of w = record {
+    takes = λ l. (many_takes {S = Fits (Forms.IsLaterObject of) (ItemAt 0) (suc e)} {L = Fits (AreMoreObjects of) (UnitAt 0) (suc e)} (is_sign mark.Comma) (read.later_object e turns of)
+        (fit 0 Grammar.AreMoreObjects.none_more (omega arith) (omega arith))
+        (λ a list y z p q. fit _ (Forms.object_joined p.is q.is) (omega (arith, p.most, q.most)) (omega (arith, p.fits, q.fits))) (λ a x p. later_object_parted p.is) (later_object_takes of) turns w l).takes l;
+  }
 
   objects_take : (of : ObjectType) (n : Named) (w : List Sym) → Takes turns (Fits (AreObjects of n) (UnitAt 0) (suc e)) [] (read.objects e turns of n) w
   unfolding read.objects

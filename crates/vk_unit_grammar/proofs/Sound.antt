@@ -1,31 +1,26 @@
 -- What the reader of units tells follows the grammar, function by function.
-use Rattle.std.proofs.Common.{◌≡◌, ℕ, zero, suc, max, Bool, true, false, List, [], ◌∷◌, ◌++◌, Option, Some, None, inl, refl, sym, ap, ◌∙◌, subst, append_assoc, append-nil, true≢false}
+use Rattle.std.proofs.Common.{◌≡◌, ℕ, zero, suc, Bool, true, false, List, [], ◌∷◌, ◌++◌, Some, None, inl, refl, sym, ap, ◌∙◌, subst, append_assoc, append-nil, true≢false}
 use Rattle.vk_types.specs.declared.types.Ty.{Ty}
 use Rattle.vk_kinds.specs.declared.heads.CType.{CType}
 use Rattle.vk_kinds.specs.declared.heads.CType.TheVariants as ctype
 use Rattle.vk_ast.specs.declared.items.ParamDecl.{ParamDecl}
-use Rattle.vk_ast.specs.Tree.{Tree}
-use Rattle.vk_ast.specs.Statements.{StmtTree}
 use Rattle.vk_ast.specs.Directives.{DirectiveTree}
-use Rattle.vk_ast.specs.Units.{ItemTree}
 use Rattle.vk_tokens.specs.declared.tokens.Mark.TheVariants as mark
 use Rattle.vk_grammar.specs.declared.symbols.Sym.{Sym}
 use Rattle.vk_grammar.specs.declared.symbols.SymKind.{SymKind}
 use Rattle.vk_grammar.specs.declared.symbols.SymKind.TheVariants as kind
 use Rattle.vk_grammar.specs.declared.symbols.Keyword.TheVariants as keyword
-use Rattle.vk_grammar.specs.Symbols.{head, line_at, number_at, Is, IsSign, is_sign}
-use Rattle.vk_grammar.specs.Types.{IsType, type_in}
-use Rattle.vk_grammar.specs.Grammar.{Tall, full, Spells}
-use Rattle.vk_grammar.specs.Parser.{Parser, pure, ◌>>=◌, take, pick, many}
-use Rattle.vk_grammar.specs.Reading.{type_words}
-use Rattle.vk_grammar.proofs.Steps.{Follows, Goes, goes, finished, pure_follows, refuse_follows, pick_follows, look_follows, choose_follows, choose_some_follows, bind_follows, take_follows, token_follows, tail_follows, many_follows}
+use Rattle.vk_grammar.specs.Symbols.{head, line_at, number_at, IsSign, is_sign}
+use Rattle.vk_grammar.specs.Types.{type_in}
+use Rattle.vk_grammar.specs.Grammar.{full}
+use Rattle.vk_grammar.specs.Parser.{pure, ◌>>=◌, take, pick, many}
+use Rattle.vk_grammar.proofs.Steps.{Follows, goes, finished, pure_follows, refuse_follows, pick_follows, look_follows, choose_follows, choose_some_follows, bind_follows, take_follows, token_follows, tail_follows, many_follows}
 use Rattle.vk_grammar.proofs.Signs.{sign_of, sign_of_is, take_sign_follows, expect_follows, then_expect_follows}
-use Rattle.vk_grammar.proofs.Starts.{Spelled, zero_sym, zero_tree, zero_tall, zero_spelled, spelled_starts}
+use Rattle.vk_grammar.proofs.Starts.{Spelled, spelled_starts}
 use Rattle.vk_grammar.proofs.Sound.{IsTypeText, type_words_follows}
-use Rattle.vk_stmt_grammar.specs.Words.{IsKeyword, is_keyword, name_at, has_const}
-use Rattle.vk_stmt_grammar.specs.Trees.{Clauses, directive_at}
+use Rattle.vk_stmt_grammar.specs.Words.{is_keyword, name_at, has_const}
+use Rattle.vk_stmt_grammar.specs.Trees.{Clauses}
 use Rattle.vk_stmt_grammar.specs.Grammar.{IsOptional, IsBlock}
-use Rattle.vk_stmt_grammar.specs.Reading.{cond, optional, body}
 use Rattle.vk_stmt_grammar.proofs.Signs.{Has, has, take_word_follows, word_of, word_of_is, take_name_follows, here_then_follows}
 use Rattle.vk_stmt_grammar.proofs.Starts.{no_name, name_sym, int_sym, semicolon}
 use Rattle.vk_stmt_grammar.proofs.Forms.{starts_parted}

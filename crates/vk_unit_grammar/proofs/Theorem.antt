@@ -1,11 +1,9 @@
 -- Whole units: what is read is the grammar's and within the limits, what is so is read, and faults are at their places.
-use Rattle.std.proofs.Common.{◌≡◌, ◌+◌, ◌≤◌, ◌<◌, ℕ, suc, Bool, true, false, List, [], ◌∷◌, length, Result, Ok, Err, refl, ap, arith, true≢false}
+use Rattle.std.proofs.Common.{◌≡◌, ◌+◌, ◌≤◌, ◌<◌, ℕ, suc, true, false, List, [], length, Ok, Err, ap, arith}
 use Rattle.vk_ast.specs.Units.{ItemTree}
 use Rattle.vk_grammar.specs.declared.symbols.Sym.{Sym}
 use Rattle.vk_grammar.specs.Parser.{Syntax, Deep, Spent}
 use Rattle.vk_grammar.specs.Texts.{IsPlace, IsDeepPlace}
-use Rattle.vk_grammar.proofs.Grown.{Room}
-use Rattle.vk_grammar.proofs.Places.{one_place, place_no_text}
 use Rattle.vk_stmt_grammar.specs.Trees.{Clauses}
 use Rattle.vk_stmt_grammar.proofs.Signs.{Has, has}
 use Rattle.vk_stmt_grammar.proofs.Limits.{Fits}

@@ -1,9 +1,8 @@
 -- Each text of a unit within the limits is read as its items.
-use Rattle.std.proofs.Common.{◌≡◌, ◌≤◌, ◌<◌, ◌+◌, ℕ, zero, suc, max, Bool, true, false, List, [], ◌∷◌, ◌++◌, length, map, Option, Some, None, Result, Ok, Err, refl, sym, ap, ◌∙◌, subst, append_assoc, append-nil, length-append, arith, true≢false}
+use Rattle.std.proofs.Common.{◌≡◌, ◌≤◌, ◌<◌, ◌+◌, ℕ, zero, suc, Bool, true, false, List, [], ◌∷◌, ◌++◌, length, Option, Some, None, Ok, refl, sym, ap, ◌∙◌, subst, append_assoc, append-nil, length-append, arith, true≢false}
 use Rattle.vk_types.specs.declared.types.Ty.{Ty}
 use Rattle.vk_kinds.specs.declared.heads.CType.{CType}
 use Rattle.vk_kinds.specs.declared.heads.CType.TheVariants as ctype
-use Rattle.vk_ast.specs.declared.names.NameId.{NameId}
 use Rattle.vk_ast.specs.declared.items.ParamDecl.{ParamDecl}
 use Rattle.vk_ast.specs.Tree.{Tree}
 use Rattle.vk_ast.specs.Statements.{StmtTree}
@@ -18,16 +17,16 @@ use Rattle.vk_grammar.specs.declared.symbols.Keyword.{Keyword}
 use Rattle.vk_grammar.specs.declared.symbols.Keyword.TheVariants as keyword
 use Rattle.vk_grammar.specs.Symbols.{head, line_at, number_at, Is, IsSign, is_sign, same_mark, operator_of, is_type_part, is_start}
 use Rattle.vk_grammar.specs.Types.{IsType, type_in}
-use Rattle.vk_grammar.specs.Grammar.{Tall, tall, full, Spells}
-use Rattle.vk_grammar.specs.Parser.{Parser, pure, ◌>>=◌, take, many}
+use Rattle.vk_grammar.specs.Grammar.{Tall}
+use Rattle.vk_grammar.specs.Parser.{take, many}
 use Rattle.vk_grammar.specs.Reading.{type_words}
-use Rattle.vk_grammar.proofs.Signs.{sign_kind, sign_is}
-use Rattle.vk_grammar.proofs.Starts.{Starts, spelled_starts}
-use Rattle.vk_grammar.proofs.Stops.{StopsAll, sign_stops, comma_stops, start_no_sign}
+use Rattle.vk_grammar.proofs.Signs.{sign_is}
+use Rattle.vk_grammar.proofs.Starts.{spelled_starts}
+use Rattle.vk_grammar.proofs.Stops.{StopsAll, sign_stops, comma_stops}
 use Rattle.vk_grammar.proofs.Equations
 use Rattle.vk_stmt_grammar.specs.Words.{IsKeyword, is_keyword, same_keyword, name_at, has_const}
-use Rattle.vk_stmt_grammar.specs.Trees.{Clauses, directive_at, levels_of}
-use Rattle.vk_stmt_grammar.specs.Grammar.{IsOptional, IsBlock, in_braces}
+use Rattle.vk_stmt_grammar.specs.Trees.{Clauses, directive_at}
+use Rattle.vk_stmt_grammar.specs.Grammar.{IsBlock, in_braces}
 use Rattle.vk_stmt_grammar.specs.Reading.{cond, optional, body}
 use Rattle.vk_stmt_grammar.proofs.Signs.{Parted, keyword_kind, keyword_is}
 use Rattle.vk_stmt_grammar.proofs.Forms.{type_parted, starts_parted}
@@ -40,7 +39,6 @@ use Rattle.vk_unit_grammar.specs.Grammar.{IsName, IsExtern, no_extern, an_extern
 use Rattle.vk_unit_grammar.specs.Reading as read
 use Rattle.vk_unit_grammar.specs.Reading.{named_by}
 use Rattle.vk_unit_grammar.proofs.Forms
-use Rattle.vk_unit_grammar.proofs.Limits.{UnitAt}
 
 -- what a test tells of a token of a known kind
 at_kind : {A : Type 0} {k : SymKind} {t : Sym} (f : Option SymKind → A) → Is k t → f (Some t.kind) ≡ f (Some k)

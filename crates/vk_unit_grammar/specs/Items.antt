@@ -8,7 +8,7 @@ use Rattle.vk_ast.specs.declared.items.ParamDecl.{ParamDecl}
 use Rattle.vk_ast.specs.Tree.{Tree}
 use Rattle.vk_ast.specs.Statements.{StmtTree}
 use Rattle.vk_ast.specs.Directives.{DirectiveTree}
-use Rattle.vk_ast.specs.Units.{FunctionTree, ObjectTree, ItemTree}
+use Rattle.vk_ast.specs.Units.{ItemTree}
 use Rattle.vk_grammar.specs.declared.symbols.SymKind.{SymKind}
 use Rattle.vk_grammar.specs.declared.symbols.SymKind.TheVariants as kind
 use Rattle.vk_grammar.specs.declared.symbols.Keyword.TheVariants as keyword

@@ -1,6 +1,6 @@
 -- The reader of units, by recursive descent. Each expression may have `e` levels below its root; a function's block has at
 -- most `d` levels of statements. `turns` bounds the loops; one more than there are tokens is enough.
-use Rattle.std.specs.Prelude.{ℕ, zero, suc, Bool, true, false, List, [], ◌∷◌, ◌++◌, map, Option, Some, None}
+use Rattle.std.specs.Prelude.{ℕ, zero, suc, Bool, true, false, List, [], ◌∷◌, ◌++◌, Option, Some, None}
 use Rattle.vk_types.specs.declared.types.Ty.{Ty}
 use Rattle.vk_kinds.specs.declared.heads.CType.{CType}
 use Rattle.vk_kinds.specs.declared.heads.CType.TheVariants as ctype
@@ -15,7 +15,6 @@ use Rattle.vk_grammar.specs.declared.symbols.Sym.{Sym}
 use Rattle.vk_grammar.specs.declared.symbols.Keyword.TheVariants as keyword
 use Rattle.vk_grammar.specs.Symbols.{is_sign}
 use Rattle.vk_grammar.specs.Types.{type_in}
-use Rattle.vk_grammar.specs.Grammar.{Tall}
 use Rattle.vk_grammar.specs.Parser.{Parser, pure, refuse, spent, ◌>>=◌, take, look, here, pick, pick_some, expect, many, whole}
 use Rattle.vk_grammar.specs.Reading.{type_words}
 use Rattle.vk_stmt_grammar.specs.Words.{is_keyword, name_at, has_const}
