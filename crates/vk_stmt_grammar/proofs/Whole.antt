@@ -452,6 +452,15 @@ module _ (clauses : Clauses) where
       → EntriesAs (list ++ rest) (max h k) (x ++ y)
   more_entries_read {list} {h} {rest} {k} {x} {y} d first others more_ = record { reads = at }
     where
+      step : (e turns n m : ℕ) (v : Sym) (r : List Sym) → entry clauses e turns n (x ++ (y ++ (v ∷ r))) ≡ Ok (list, y ++ (v ∷ r)) → Lists rest (v ∷ r) (many m (is_not mark.CloseBrace) (entry clauses e turns n) (y ++ (v ∷ r)))
+          → Lists (list ++ rest) (v ∷ r) (many (suc m) (is_not mark.CloseBrace) (entry clauses e turns n) ((x ++ y) ++ (v ∷ r)))
+      step e turns n m v r a g = record {
+        lists = list ∷ g.lists;
+        same = ap (λ z. list ++ z) g.same;
+        is = ap (many (suc m) (is_not mark.CloseBrace) (entry clauses e turns n)) (append_assoc x y (v ∷ r))
+            ∙ Equations.many_more (is_not mark.CloseBrace) (entry clauses e turns n) m (x ++ (y ++ (v ∷ r))) (y ++ (v ∷ r)) (v ∷ r) (entry_no_brace (y ++ (v ∷ r)) d) a g.is;
+      }
+
       at : (e turns n m : ℕ) (v : Sym) (r : List Sym) → max h k ≤ suc e → length (x ++ y) < turns → length (x ++ y) < m → AllAt n (list ++ rest) → IsSign mark.CloseBrace v
           → Lists (list ++ rest) (v ∷ r) (many m (is_not mark.CloseBrace) (entry clauses e turns n) ((x ++ y) ++ (v ∷ r)))
       at e turns n zero v r hi l i lv j = absurd (omega (arith, i))
@@ -460,13 +469,7 @@ module _ (clauses : Clauses) where
           let sizes : length y < length (x ++ y) = omega (arith, length-append x y, ap length p.parts) in
           let parts = all_apart n list rest lv in
           let g = more_.reads e turns n m v r (omega (arith, hi)) (omega (arith, l, sizes)) (omega (arith, i, sizes)) parts.1 j in
-          record {
-            lists = list ∷ g.lists;
-            same = ap (λ z. list ++ z) g.same;
-            is = ap (many (suc m) (is_not mark.CloseBrace) (entry clauses e turns n)) (append_assoc x y (v ∷ r))
-                ∙ Equations.many_more (is_not mark.CloseBrace) (entry clauses e turns n) m (x ++ (y ++ (v ∷ r))) (y ++ (v ∷ r)) (v ∷ r) (entry_no_brace (y ++ (v ∷ r)) d)
-                (first.reads e turns n (y ++ (v ∷ r)) (omega (arith, hi)) (omega (arith, l, length-append x y)) parts.0 (entries_no_else r others j)) g.is;
-          }
+          step e turns n m v r (first.reads e turns n (y ++ (v ∷ r)) (omega (arith, hi)) (omega (arith, l, length-append x y)) parts.0 (entries_no_else r others j)) g
 
   -- ---- every text
 
