@@ -1,5 +1,5 @@
 -- Texts and the trees that are read of them.
-use Rattle.std.proofs.Common.{◌≡◌, ℕ, List, [], ◌∷◌, Option, Some, None, Result, Ok, Err, refl}
+use Rattle.std.proofs.Common.{◌≡◌, ℕ, List, [], ◌∷◌, Some, None, Result, Ok, Err, refl}
 use Rattle.vk_types.specs.declared.types.Ty.TheVariants.{I8, I16, I32, U32, U64}
 use Rattle.vk_ast.specs.declared.names.NameId.{NameId}
 use Rattle.vk_ast.specs.declared.expressions.BinOp.TheVariants as op

@@ -130,7 +130,7 @@ module _ (d turns : ℕ) (sub : Sort → Parser Tall) where
   refused_level zero w e = rw (none_there (head w) e, no_paren (head w) e) (ap (λ o. then_do o (subscripts d turns sub (suc d) (line_at w) (number_at w))) (refused_atom (head w) w e))
   refused_level (suc n) w e = ap (λ o. then_do o (operators d turns sub (suc d) n (line_at w) (number_at w))) (refused_level n w e)
 
-refused : (turns d : ℕ) (s : Sort) (w : List Sym) → is_start (head w) ≡ false → expression turns d s w ≡ Err (Syntax (length w))
+pub refused : (turns d : ℕ) (s : Sort) (w : List Sym) → is_start (head w) ≡ false → expression turns d s w ≡ Err (Syntax (length w))
 unfolding expression nothing conditional
 refused turns zero s w e = rw e
 refused turns (suc d) (level n) w e = refused_level d turns (expression turns d) n w e
@@ -216,7 +216,7 @@ module _ (deep : Bool) (d e turns more_turns : ℕ) (room : Room deep d e) (turn
   sorted_grows (level n) = levels_grow n
   sorted_grows full = here_grows (λ l k. bind_grows (levels_grow 10) (choices_grow l k))
 
-lower_room : {deep : Bool} {d e : ℕ} → Room deep (suc d) (suc e) → Room deep d e
+pub lower_room : {deep : Bool} {d e : ℕ} → Room deep (suc d) (suc e) → Room deep d e
 lower_room r = record { above = le_of_suc-le-suc r.above; same = λ f. suc_injective (r.same f) }
   where
     suc_injective : {a b : ℕ} → suc a ≡ suc b → a ≡ b

@@ -143,6 +143,10 @@ nothing_keeps : (turns d : ℕ) → Keeps turns 1 (Within d) nothing
 unfolding nothing
 nothing_keeps turns d = choose_keeps is_start deep_keeps refuse_keeps
 
+pub type_words_keep : (turns : ℕ) → Keeps turns 0 Any (type_words turns)
+unfolding type_words
+type_words_keep turns = bind_keeps {P = Any} (many_keeps {P = Any} {Q = Any} is_type_part take_keeps tt (λ t list _ _. tt)) (λ c _. pick_keeps (has_words (words_of c)) (pure_keeps tt) refuse_keeps)
+
 module _ (d turns : ℕ) (sub : Sort → Parser Tall) (subs : (s : Sort) → Keeps turns 1 (Within d) (sub s)) where
   later_keeps : Keeps turns 1 (Within d) (later_argument d turns sub)
   unfolding later_argument
@@ -186,13 +190,9 @@ module _ (d turns : ℕ) (sub : Sort → Parser Tall) (subs : (s : Sort) → Kee
   unfolding group
   group_keeps = bind_keeps {P = Within d} (subs full) (λ a i. weaken (bind_keeps (expect_keeps mark.CloseParen) (λ _ _. pure_keeps (record { some_ = omega arith; most = omega arith }))))
 
-  type_words_keep : Keeps turns 0 Any (type_words turns)
-  unfolding type_words
-  type_words_keep = bind_keeps {P = Any} (many_keeps {P = Any} {Q = Any} is_type_part take_keeps tt (λ t list _ _. tt)) (λ c _. pick_keeps (has_words (words_of c)) (pure_keeps tt) refuse_keeps)
-
   cast_keeps : (l k : ℕ) → Keeps turns 0 (Within (suc d)) (cast_of d turns sub l k)
   unfolding cast_of
-  cast_keeps l k = bind_keeps {P = Any} type_words_keep (λ c _. weaken (bind_keeps {P = Any} (expect_keeps mark.CloseParen) (λ _ _. bind_keeps {P = Within d} (weaken (subs (level 0)))
+  cast_keeps l k = bind_keeps {P = Any} (type_words_keep turns) (λ c _. weaken (bind_keeps {P = Any} (expect_keeps mark.CloseParen) (λ _ _. bind_keeps {P = Within d} (weaken (subs (level 0)))
       (λ a i. pure_keeps {a = tall (Tree.cast l k (type_in c) a.tree) (suc a.height)} (record { some_ = omega arith; most = omega arith })))))
 
   behind_paren_keeps : (t : Sym) → Keeps turns 0 (Within (suc d)) (behind_paren d turns sub t)

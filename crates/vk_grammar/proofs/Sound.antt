@@ -37,9 +37,9 @@ here_bind_follows {A} {B} {S} {R} {p} {w} f h begins next ends = here_follows (�
 
 -- ---- types
 
-record IsTypeText (c u : List Sym) : Type 0 where
-  same : c ≡ u
-  type : IsType u
+pub record IsTypeText (c u : List Sym) : Type 0 where
+  pub same : c ≡ u
+  pub type : IsType u
 
 record ArePartsText (c u : List Sym) : Type 0 where
   same : c ≡ u
@@ -77,7 +77,7 @@ int_words (t ∷ u) = kept_words t.kind (words_of (u ++ (int_sym ∷ []))) (int_
 parts_go : (c u : List Sym) → ArePartsText c u → Goes IsTypeText u
 parts_go c u p = goes (int_sym ∷ []) (u ++ (int_sym ∷ [])) (record { same = refl; type = record { parts = with_int p.parts; has = int_words u } })
 
-type_words_follows : (turns : ℕ) (w : List Sym) → Follows IsTypeText [] (type_words turns) w
+pub type_words_follows : (turns : ℕ) (w : List Sym) → Follows IsTypeText [] (type_words turns) w
 unfolding type_words
 type_words_follows turns w = bind_follows {S = ArePartsText} (many_follows is_type_part take (record { same = refl; parts = no_parts }) parts_joined part_follows turns w)
     (λ c v r parts p. pick_follows (has_words (words_of c))
