@@ -114,3 +114,28 @@ lines_of_directives a = refl
 block_alone : reads 1 (is_mark 0 mark.OpenBrace ∷ is_mark 1 mark.Semicolon ∷ is_mark 2 mark.CloseBrace ∷ []) ≡ Err (Deep 2)
 unfolding reads
 block_alone = refl
+
+-- if (a) while (b) if (c) ; else ;
+through_a_loop : (a b c : NameId) → reads 65 (is_word 0 keyword.If ∷ is_mark 1 mark.OpenParen ∷ is_name 2 a ∷ is_mark 3 mark.CloseParen ∷ is_word 4 keyword.While ∷ is_mark 5 mark.OpenParen ∷ is_name 6 b ∷ is_mark 7 mark.CloseParen
+    ∷ is_word 8 keyword.If ∷ is_mark 9 mark.OpenParen ∷ is_name 10 c ∷ is_mark 11 mark.CloseParen ∷ is_mark 12 mark.Semicolon ∷ is_word 13 keyword.Else ∷ is_mark 14 mark.Semicolon ∷ [])
+    ≡ Ok (StmtTree.if_only 1 0 (Tree.name 1 2 a) (StmtTree.while_loop 1 4 (Tree.name 1 6 b) (StmtTree.if_else 1 8 (Tree.name 1 10 c) (StmtTree.empty 1 12) (StmtTree.empty 1 14))), [])
+unfolding reads
+through_a_loop a b c = refl
+
+-- do -- a; while (b);
+before_in_do : (a b : NameId) → reads 65 (is_word 0 keyword.Do ∷ is_mark 1 mark.Decrement ∷ is_name 2 a ∷ is_mark 3 mark.Semicolon ∷ is_word 4 keyword.While ∷ is_mark 5 mark.OpenParen ∷ is_name 6 b ∷ is_mark 7 mark.CloseParen
+    ∷ is_mark 8 mark.Semicolon ∷ []) ≡ Ok (StmtTree.do_loop 1 0 (StmtTree.assign 1 1 (Some op.Sub) (Tree.name 1 2 a) (Tree.int 1 1 I32 1)) (Tree.name 1 6 b), [])
+unfolding reads
+before_in_do a b = refl
+
+-- for (; a ; * a <<= a) return;
+parts_of_for : (a : NameId) → reads 65 (is_word 0 keyword.For ∷ is_mark 1 mark.OpenParen ∷ is_mark 2 mark.Semicolon ∷ is_name 3 a ∷ is_mark 4 mark.Semicolon ∷ is_mark 5 mark.Star ∷ is_name 6 a ∷ is_mark 7 mark.ShlAssign ∷ is_name 8 a
+    ∷ is_mark 9 mark.CloseParen ∷ is_word 10 keyword.Return ∷ is_mark 11 mark.Semicolon ∷ [])
+    ≡ Ok (StmtTree.for_loop 1 0 (StmtTree.empty 1 2) (Some (Tree.name 1 3 a)) (StmtTree.assign 1 5 (Some op.Shl) (Tree.deref 1 5 (Tree.name 1 6 a)) (Tree.name 1 8 a)) (StmtTree.return_value 1 10 None), [])
+unfolding reads
+parts_of_for a = refl
+
+-- else ;
+else_alone : reads 65 (is_word 0 keyword.Else ∷ is_mark 1 mark.Semicolon ∷ []) ≡ Err (Syntax 2)
+unfolding reads
+else_alone = refl

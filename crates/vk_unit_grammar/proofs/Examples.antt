@@ -104,3 +104,26 @@ before_an_object a = refl
 void_object : (a : NameId) → reads (is_word 0 keyword.Void ∷ is_name 1 a ∷ is_mark 2 mark.Semicolon ∷ []) ≡ Err (Syntax 1)
 unfolding reads
 void_object a = refl
+
+-- extern int const f(int * const, int const a); `extern` and the `const` of the result add nothing
+outside_function : (f a : NameId) → reads (is_word 0 keyword.Extern ∷ int 1 ∷ is_word 2 keyword.Const ∷ is_name 3 f ∷ is_mark 4 mark.OpenParen ∷ int 5 ∷ is_mark 6 mark.Star ∷ is_word 7 keyword.Const ∷ is_mark 8 mark.Comma
+    ∷ int 9 ∷ is_word 10 keyword.Const ∷ is_name 11 a ∷ is_mark 12 mark.CloseParen ∷ is_mark 13 mark.Semicolon ∷ [])
+    ≡ Ok (function_tree (at_name 3 f) [] (ctype.Int I32) (without_name 1 5 (ctype.Ptr I32 true) true ∷ with_name (at_name 11 a) (ctype.Int I32) true ∷ []) None ∷ [], [])
+unfolding reads
+outside_function f a = refl
+
+-- int a, f();
+function_in_a_list : (a f : NameId) → reads (int 0 ∷ is_name 1 a ∷ is_mark 2 mark.Comma ∷ is_name 3 f ∷ is_mark 4 mark.OpenParen ∷ is_mark 5 mark.CloseParen ∷ is_mark 6 mark.Semicolon ∷ []) ≡ Err (Syntax 3)
+unfolding reads
+function_in_a_list a f = refl
+
+-- int a[] = {}; and then nothing
+empty_braces : (a : NameId) → reads (int 0 ∷ is_name 1 a ∷ is_mark 2 mark.OpenBracket ∷ is_mark 3 mark.CloseBracket ∷ is_mark 4 mark.Assign ∷ is_mark 5 mark.OpenBrace ∷ is_mark 6 mark.CloseBrace ∷ is_mark 7 mark.Semicolon ∷ [])
+    ≡ Ok (object_tree (record { ty = I32; fixed = false; outside = false }) (at_name 1 a) (Some None) (record { items = Some []; braced = true; line = 1; token = 5 }) ∷ [], [])
+unfolding reads
+empty_braces a = refl
+
+-- a unit of nothing
+nothing_at_all : reads [] ≡ Ok ([], [])
+unfolding reads
+nothing_at_all = refl

@@ -149,7 +149,8 @@ pub data AreItems (clauses : Clauses) : List ItemTree → (height : ℕ) → Lis
   next_item : {lines : List DirectiveTree} {x : List Sym} {list : List ItemTree} {h : ℕ} {y : List Sym} {rest : List ItemTree} {k : ℕ} {z : List Sym} → AreLines clauses lines x
       → IsItem clauses lines list h y → AreItems clauses rest k z → AreItems clauses (list ++ rest) (max h k) (x ++ (y ++ z))
 
--- The texts of units; and those with expressions of a height of at most `e` and at most `d` levels of statements.
+-- The texts of units; and those with expressions of a height of at most `e` and at most `d` levels of statements in each
+-- function. A unit keeps the rule C6 where these are 64 and 65: the innermost statement stands inside 64 others.
 abbrev pub IsText : Clauses → List Sym → Type 0
 IsText clauses u = (items : List ItemTree) × ((h : ℕ) × AreItems clauses items h u)
 

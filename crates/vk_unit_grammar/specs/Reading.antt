@@ -1,5 +1,6 @@
 -- The reader of units, by recursive descent. Each expression may have `e` levels below its root; a function's block has at
--- most `d` levels of statements. `turns` bounds the loops; one more than there are tokens is enough.
+-- most `d` levels of statements. For the rule C6 `e` is 63 and `d` is 65: an expression has at most 64 levels, and a
+-- statement stands inside at most 64 others. `turns` bounds the loops; one more than there are tokens is enough.
 use Rattle.std.specs.Prelude.{ℕ, zero, suc, Bool, true, false, List, [], ◌∷◌, ◌++◌, Option, Some, None}
 use Rattle.vk_types.specs.declared.types.Ty.{Ty}
 use Rattle.vk_kinds.specs.declared.heads.CType.{CType}
