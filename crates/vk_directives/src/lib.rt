@@ -1,4 +1,7 @@
 //! The clauses of directives (OpenMP 5.2, declare simd and simd).
 #![tactic(auto)]
 
+pub mod clauses;
+pub mod cuts;
+pub mod miss;
 pub mod words;

@@ -1,0 +1,5 @@
+mod Cutting
+mod Conds
+mod Sums
+mod Lists
+mod Summing
