@@ -3,3 +3,10 @@ mod Conds
 mod Sums
 mod Lists
 mod Summing
+mod Telling
+mod Forms
+mod Even
+mod Colons
+mod Linears
+mod Known
+mod Told

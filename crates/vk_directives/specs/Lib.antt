@@ -4,3 +4,4 @@ pub mod Clauses
 pub mod Reading
 pub mod Answers
 pub mod Parts
+pub mod Directives

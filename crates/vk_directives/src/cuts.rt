@@ -71,6 +71,7 @@ fn group_len(syms: &[Sym]) -> usize
 pub fn piece_len(syms: &[Sym]) -> usize
     ensures count { result ≡ piece_len syms.now }
     ensures within { result ≤ length syms.now }
+    ensures some { 1 ≤ length syms.now → 1 ≤ result }
 {
     match syms {
         [] => 0,

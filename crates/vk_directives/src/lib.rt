@@ -3,5 +3,9 @@
 
 pub mod clauses;
 pub mod cuts;
+pub mod directives;
+pub mod laws;
 pub mod miss;
 pub mod words;
+
+pub use directives::{read_clauses, read_directive};
