@@ -90,9 +90,9 @@ not_false false e = sym e
 pub cut : (w : List Sym) {y : List Sym} → behind_colon w ≡ Some y → Cut w y
 unfolding behind_colon before_colon
 cut w {y} e = elim (cases_lt (position_or_len is_colon w) (length w)) [
-    inl below ↦ at_place w below e
+  | inl below ↦ at_place w below e
   | inr past ↦ let none = ap tail_of (drop_of_length-le w past) in absurd (cc)
-  ]
+]
   where
     at_place : (w : List Sym) → position_or_len is_colon w < length w → tail_of (drop (position_or_len is_colon w) w) ≡ Some y → Cut w y
     at_place [] below e = absurd (omega arith)
@@ -110,9 +110,9 @@ cut w {y} e = elim (cases_lt (position_or_len is_colon w) (length w)) [
 pub uncut : (w : List Sym) → behind_colon w ≡ None → before_colon w ≡ w
 unfolding behind_colon before_colon
 uncut w e = elim (cases_lt (position_or_len is_colon w) (length w)) [
-    inl below ↦ absurd (has_tail w below e)
+  | inl below ↦ absurd (has_tail w below e)
   | inr past ↦ take_all (position_or_len is_colon w) w past
-  ]
+]
   where
     has_tail : (w : List Sym) → position_or_len is_colon w < length w → tail_of (drop (position_or_len is_colon w) w) ≡ None → ⊥
     has_tail [] below e = omega arith

@@ -48,15 +48,15 @@ some_none e = cc
 
 pub place_of : {X : Type 0} (p : X → Bool) (xs : List X) (at : ℕ) → Some at ≡ position p xs → (at ≡ position_or_len p xs) × (at < length xs)
 place_of p xs at is = elim (cases_lt (position_or_len p xs) (length xs)) [
-    inl below ↦ let e : Some at ≡ Some (position_or_len p xs) = is ∙ rw (lt-ltb _ _ below) refl in (some_is e, subst (λ k. k < length xs) (sym (some_is e)) below)
+  | inl below ↦ let e : Some at ≡ Some (position_or_len p xs) = is ∙ rw (lt-ltb _ _ below) refl in (some_is e, subst (λ k. k < length xs) (sym (some_is e)) below)
   | inr past ↦ absurd (some_none (is ∙ rw (le-ltb _ _ past) refl))
-  ]
+]
 
 pub no_place_of : {X : Type 0} (p : X → Bool) (xs : List X) → None ≡ position p xs → length xs ≤ position_or_len p xs
 no_place_of p xs is = elim (cases_lt (position_or_len p xs) (length xs)) [
-    inl below ↦ absurd (some_none {a = position_or_len p xs} (sym (is ∙ rw (lt-ltb _ _ below) refl)))
+  | inl below ↦ absurd (some_none {a = position_or_len p xs} (sym (is ∙ rw (lt-ltb _ _ below) refl)))
   | inr past ↦ past
-  ]
+]
 
 pub before_at : (w : List Sym) (at : ℕ) → at ≡ position_or_len is_colon w → take at w ≡ before_colon w
 unfolding before_colon

@@ -67,7 +67,7 @@ pub group_is : {o c : Sym} {x : List Sym} (rest : List Sym) → IsSign mark.Open
     → group_len 0 (o ∷ ((x ++ (c ∷ [])) ++ rest)) ≡ length (o ∷ (x ++ (c ∷ [])))
 group_is {o} {c} {x} rest i j a =
     let inner : group_len 1 ((x ++ (c ∷ [])) ++ rest) ≡ length x + 1 =
-        ap (group_len 1) (append_assoc x (c ∷ []) rest) ∙ a.even 0 (c ∷ rest) ∙ ap (λ n. length x + n) (last_close c rest j) in
+    ap (group_len 1) (append_assoc x (c ∷ []) rest) ∙ a.even 0 (c ∷ rest) ∙ ap (λ n. length x + n) (last_close c rest j) in
     rw (sign_is i) (omega (arith, inner, length-append x (c ∷ [])))
 
 -- ---- other tokens

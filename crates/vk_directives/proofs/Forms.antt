@@ -106,7 +106,7 @@ wraps (o ∷ rest) e =
     let both = both_true (is_open o) (last_closes rest) c.0 in
     let end = ends rest both.1 in
     subst (λ (y : List Sym). Wraps y (o ∷ rest)) (some_is c.1)
-        (subst (λ (r : List Sym). Wraps (without_last rest) (o ∷ r)) (sym end.2) (in_parens (open_of both.0) end.1))
+    (subst (λ (r : List Sym). Wraps (without_last rest) (o ∷ r)) (sym end.2) (in_parens (open_of both.0) end.1))
   where
     both_true : (a b : Bool) → a && b ≡ true → (a ≡ true) × (b ≡ true)
     both_true true b h = (refl, h)

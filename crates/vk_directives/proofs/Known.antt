@@ -30,7 +30,7 @@ module _ (names : List (List ℕ)) where
       let c = cut x is in
       let g = gave (cond_in y) (λ t. Some (Some t)) e in
       subst (λ (o : Option Tree). IsForm names word.Aligned (Says.aligned ids o) w) (some_is g.then_is)
-          (an_aligned_to (subst (λ (l : List Sym). Wraps l w) c.parts wr) all c.is (cond_only y g.value g.is))
+      (an_aligned_to (subst (λ (l : List Sym). Wraps l w) c.parts wr) all c.is (cond_only y g.value g.is))
 
   aligned_found : {x w : List Sym} {s : Says} → Wraps x w → aligned_in x ≡ Some s → IsForm names word.Aligned s w
   unfolding aligned_in
@@ -134,8 +134,8 @@ module _ (names : List (List ℕ)) where
       let w = t ∷ rest in
       let k = piece_len w in
       elim (cases_Bool (skips_comma w)) [
-        inl skips ↦ let both = skip_is t rest skips in rw skips (behind_comma both.0 both.1 (clauses_found n rest (omega arith)))
-      | inr goes ↦ rw goes (a_clause goes (says_found (take k w)) (clauses_found n (drop k w) (let one = piece_some t rest in omega (arith, one, length-drop k w))))
+        | inl skips ↦ let both = skip_is t rest skips in rw skips (behind_comma both.0 both.1 (clauses_found n rest (omega arith)))
+        | inr goes ↦ rw goes (a_clause goes (says_found (take k w)) (clauses_found n (drop k w) (let one = piece_some t rest in omega (arith, one, length-drop k w))))
       ]
 
   pub all_found : (w : List Sym) → AreClauses names (clauses_of names w) w
@@ -153,7 +153,7 @@ module _ (names : List (List ℕ)) where
       let k = piece_len w in
       let later = clauses_only {cs = cs} all n (let one = piece_some t rest in omega (arith, one, length-drop k w)) in
       rw goes (ap (λ (x : Says). let y : ClauseTree = record { token = t.at; says = x } in y ∷ cs) (says_only c)
-          ∙ ap (λ (l : List ClauseTree). record { token = t.at; says = says_in names (take k w) } ∷ l) later)
+      ∙ ap (λ (l : List ClauseTree). record { token = t.at; says = says_in names (take k w) } ∷ l) later)
 
   pub all_only : {cs : List ClauseTree} {w : List Sym} → AreClauses names cs w → cs ≡ clauses_of names w
   unfolding clauses_of

@@ -109,7 +109,7 @@ module _ (names : List (List ℕ)) where
       let g = gave (part_in names (take k w)) (λ p. later_parts (parts_in names n) (drop k w) >>= (λ parts. Some (p ∷ parts))) e in
       let h = gave (later_parts (parts_in names n) (drop k w)) (λ parts. Some (g.value ∷ parts)) g.then_is in
       subst (λ (qs : List Part). AreParts names qs w) (some_is h.then_is)
-          (later_found n (parts_found n) (drop k w) (take-append-drop k w) (part_found (take k w) g.is) h.is)
+      (later_found n (parts_found n) (drop k w) (take-append-drop k w) (part_found (take k w) g.is) h.is)
 
   step_of : (next : List Sym → Option (List Part)) (w x b : List Sym) {p : Part} {qs : List Part} → take (piece_len w) w ≡ x → drop (piece_len w) w ≡ b
       → part_in names x ≡ Some p → later_parts next b ≡ Some qs → parts_step names next w ≡ Some (p ∷ qs)
@@ -123,8 +123,8 @@ module _ (names : List (List ℕ)) where
   parts_only (more_parts {parts = parts} {x = x} {u = u} {y = y} i c more) (suc n) room =
       let len = piece_of i (u ∷ y) (comma_not_open c) in
       step_of (parts_in names n) (x ++ (u ∷ y)) x (u ∷ y)
-          (ap (λ k. take k (x ++ (u ∷ y))) len ∙ take-append_seam x (u ∷ y)) (ap (λ k. drop k (x ++ (u ∷ y))) len ∙ drop-append_seam x (u ∷ y))
-          (part_only i) (rw (sign_is c) (parts_only {ps = parts} more n (omega (arith, length-append x (u ∷ y)))))
+      (ap (λ k. take k (x ++ (u ∷ y))) len ∙ take-append_seam x (u ∷ y)) (ap (λ k. drop k (x ++ (u ∷ y))) len ∙ drop-append_seam x (u ∷ y))
+      (part_only i) (rw (sign_is c) (parts_only {ps = parts} more n (omega (arith, length-append x (u ∷ y)))))
 
   modifiers_found : (w : List Sym) {ps : List Part} → modifiers_in names w ≡ Some ps → AreParts names ps w
   unfolding modifiers_in
@@ -143,7 +143,7 @@ module _ (names : List (List ℕ)) where
   behind_found {x} {ids} {s} (Some y) is all e =
       let c = cut x is in
       subst (IsLinear names s) (sym c.parts) (elim (either (has_modifiers names y) (modifiers_in names y >>= (λ parts. Some (Says.linear ids (modifier_in parts) (step_in parts)))) (cond_in y >>= (λ t. Some (Says.linear ids None (Some t)))) e) [
-          inl h ↦
+        | inl h ↦
             let g = gave (modifiers_in names y) (λ parts. Some (Says.linear ids (modifier_in parts) (step_in parts))) h.1 in
             subst (λ (s : Says). IsLinear names s (before_colon x ++ (c.colon ∷ y))) (some_is g.then_is) (with_modifiers all c.is h.0 (modifiers_found y g.is))
         | inr h ↦
@@ -163,14 +163,14 @@ module _ (names : List (List ℕ)) where
   group_found t w {x = x} {ids = ids} None is i wr all e same =
       let m = modifier_of (word_at names t.kind) in
       subst (λ (s : Says). IsLinear names s (t ∷ w)) (ap (Says.linear ids (Some m)) (some_is e) ∙ same)
-          (modified i (subst (λ (l : List Sym). Wraps x l) (uncut w is) wr) all)
+      (modified i (subst (λ (l : List Sym). Wraps x l) (uncut w is) wr) all)
   group_found t w {ids = ids} (Some y) is i wr all e same =
       let m = modifier_of (word_at names t.kind) in
       let c = cut w is in
       let h = refused (has_modifiers names y) (cond_in y >>= (λ tr. Some (Some tr))) e in
       let g = gave (cond_in y) (λ tr. Some (Some tr)) h.1 in
       subst (λ (s : Says). IsLinear names s (t ∷ w)) (ap (Says.linear ids (Some m)) (some_is g.then_is) ∙ same)
-          (subst (λ (l : List Sym). IsLinear names (Says.linear ids (Some m) (Some g.value)) (t ∷ l)) (sym c.parts) (modified_with_step i wr all c.is h.0 (cond_only y g.value g.is)))
+      (subst (λ (l : List Sym). IsLinear names (Says.linear ids (Some m) (Some g.value)) (t ∷ l)) (sym c.parts) (modified_with_step i wr all c.is h.0 (cond_only y g.value g.is)))
 
   modified_found : (t : Sym) (w : List Sym) {s : Says} → modified_linear names t w ≡ Some s → IsLinear names s (t ∷ w)
   unfolding modified_linear
@@ -186,9 +186,9 @@ module _ (names : List (List ℕ)) where
   unfolding linear_in
   linear_found [] e = absurd (cc)
   linear_found (t ∷ rest) e = elim (either (is_sign mark.OpenParen (head rest)) (modified_linear names t rest) (ids_linear names (t ∷ rest)) e) [
-      inl h ↦ modified_found t rest h.1
+    | inl h ↦ modified_found t rest h.1
     | inr h ↦ ids_linear_found (t ∷ rest) h.1
-    ]
+  ]
 
   no_group : {ids : List NameId} {x : List Sym} → AreIds ids x → (rest : List Sym) → is_sign mark.OpenParen (head rest) ≡ false → linear_in names (x ++ rest) ≡ ids_linear names (x ++ rest)
   unfolding linear_in

@@ -42,7 +42,7 @@ module _ (names : List (List ℕ)) (w rest : List Sym) (p : Part) where
   last s is ends more =
       let go = private_step s.turns s.room is in
       let all : modifiers_in names w ≡ Some (s.front ++ p ∷ []) =
-          sym s.goes ∙ ap (λ o. o >>= (λ later. Some (s.front ++ later))) (go.2 ∙ ap (λ b. later_parts (parts_in names go.0) b >>= (λ parts. Some (p ∷ parts))) ends) in
+      sym s.goes ∙ ap (λ o. o >>= (λ later. Some (s.front ++ later))) (go.2 ∙ ap (λ b. later_parts (parts_in names go.0) b >>= (λ parts. Some (p ∷ parts))) ends) in
       rw all (more s.front s.sum)
 
   pub next : {old new : Modifiers} (u : Sym) (behind : List Sym) → Summing names w rest old → part_in names (take (piece_len rest) rest) ≡ Some p
@@ -51,8 +51,8 @@ module _ (names : List (List ℕ)) (w rest : List Sym) (p : Part) where
   next u behind s is parts comma more =
       let go = private_step s.turns s.room is in
       let one : parts_in names s.turns rest ≡ (parts_in names go.0 behind >>= (λ list. Some (p ∷ list))) =
-          go.2 ∙ ap (λ b. later_parts (parts_in names go.0) b >>= (λ list. Some (p ∷ list))) parts
-          ∙ ap (λ b. cond b (parts_in names go.0 behind) None >>= (λ list. Some (p ∷ list))) comma in
+      go.2 ∙ ap (λ b. later_parts (parts_in names go.0) b >>= (λ list. Some (p ∷ list))) parts
+      ∙ ap (λ b. cond b (parts_in names go.0 behind) None >>= (λ list. Some (p ∷ list))) comma in
       record {
         front = s.front ++ p ∷ [];
         sum = more s.front s.sum;

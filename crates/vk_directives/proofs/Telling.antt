@@ -40,7 +40,7 @@ skip names w rest told l some skips =
 
 pieced : (names : List (List ℕ)) (turns : ℕ) (rest : List Sym) (d : Sym) → length rest ≤ turns → 1 ≤ length rest → skips_comma rest ≡ false → 1 ≤ piece_len rest
     → (m : ℕ) × (length (drop (piece_len rest) rest) ≤ m)
-        × (clauses_in names turns rest ≡ (record { token = (get_or rest 0 d).at; says = says_in names (take (piece_len rest) rest) } ∷ clauses_in names m (drop (piece_len rest) rest)))
+    × (clauses_in names turns rest ≡ (record { token = (get_or rest 0 d).at; says = says_in names (take (piece_len rest) rest) } ∷ clauses_in names m (drop (piece_len rest) rest)))
 pieced names zero rest d room some skips one = absurd (omega arith)
 pieced names (suc m) [] d room some skips one = absurd (omega arith)
 pieced names (suc m) (t ∷ rest) d room some skips one = (m, omega (arith, length-drop (piece_len (t ∷ rest)) (t ∷ rest)), rw skips refl)

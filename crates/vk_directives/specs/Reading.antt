@@ -102,7 +102,7 @@ module _ (names : List (List ℕ)) where
   behind_ids ids None = Some (Says.linear ids None None)
   behind_ids ids (Some y) =
       cond (has_modifiers names y) (modifiers_in y >>= (λ parts. Some (Says.linear ids (modifier_in parts) (step_in parts))))
-          (cond_in y >>= (λ e. Some (Says.linear ids None (Some e))))
+      (cond_in y >>= (λ e. Some (Says.linear ids None (Some e))))
 
   -- behind the parentheses of a modifier
   unfoldable pub behind_group : Option (List Sym) → Option (Option Tree)

@@ -90,7 +90,11 @@ fn modifier_of(word: Option<Word>) -> Modifier
 fn alone(kind: ClauseKind, syms: &[Sym]) -> Result<ClauseKind, Miss>
     ensures { Gives says_of result (spec.alone (says_of kind) syms.now) }
 {
-    if syms.is_empty() { Ok(kind) } else { Err(Miss::NoForm) }
+    if syms.is_empty() {
+        Ok(kind)
+    } else {
+        Err(Miss::NoForm)
+    }
 }
 
 // What stands in the parentheses of `aligned`.
@@ -186,7 +190,10 @@ fn read_part(alloc: Global, names: &NameTable, syms: &[Sym]) -> Result<Part, Mis
 fn read_modifiers(alloc: Global, names: &NameTable, syms: &[Sym]) -> Result<Modifiers, Miss>
     ensures { Sums result (spec.modifiers_in names.now syms.now) }
 {
-    let mut found = Modifiers { word: None, step: None };
+    let mut found = Modifiers {
+        word: None,
+        step: None,
+    };
     let mut rest = syms;
     loop {
         let (text, behind) = rest.split_at(piece_len(rest));
@@ -206,7 +213,12 @@ fn read_modifiers(alloc: Global, names: &NameTable, syms: &[Sym]) -> Result<Modi
 
 // What goes on behind the names of `linear`.
 #[tactic(auto, unfolding(crate::specs::Reading::behind_ids))]
-fn behind_ids(alloc: Global, names: &NameTable, ids: Vec<NameId>, behind: Option<&[Sym]>) -> Result<ClauseKind, Miss>
+fn behind_ids(
+    alloc: Global,
+    names: &NameTable,
+    ids: Vec<NameId>,
+    behind: Option<&[Sym]>,
+) -> Result<ClauseKind, Miss>
     ensures { Gives says_of result (spec.behind_ids names.now ids.items (option_map (λ r. r.now) behind.entry)) }
 {
     let Some(syms) = behind else {
@@ -223,7 +235,11 @@ fn behind_ids(alloc: Global, names: &NameTable, ids: Vec<NameId>, behind: Option
 
 // The step behind the parentheses of a modifier.
 #[tactic(auto, unfolding(crate::specs::Reading::behind_group))]
-fn behind_group(alloc: Global, names: &NameTable, behind: Option<&[Sym]>) -> Result<Option<Expr>, Miss>
+fn behind_group(
+    alloc: Global,
+    names: &NameTable,
+    behind: Option<&[Sym]>,
+) -> Result<Option<Expr>, Miss>
     ensures { Gives (λ e. option_map expr_of e) result (spec.behind_group names.now (option_map (λ r. r.now) behind.entry)) }
 {
     let Some(syms) = behind else {
@@ -245,7 +261,12 @@ fn ids_linear(alloc: Global, names: &NameTable, syms: &[Sym]) -> Result<ClauseKi
 }
 
 #[tactic(auto, unfolding(crate::specs::Reading::modified_linear))]
-fn modified_linear(alloc: Global, names: &NameTable, first: Sym, rest: &[Sym]) -> Result<ClauseKind, Miss>
+fn modified_linear(
+    alloc: Global,
+    names: &NameTable,
+    first: Sym,
+    rest: &[Sym],
+) -> Result<ClauseKind, Miss>
     ensures { Gives says_of result (spec.modified_linear names.now first rest.now) }
 {
     let _name = name(first.kind)?;
@@ -275,7 +296,12 @@ fn linear(alloc: Global, names: &NameTable, syms: &[Sym]) -> Result<ClauseKind, 
 
 // A clause that begins with this word, by the tokens behind it.
 #[tactic(auto, unfolding(crate::specs::Reading::form_in))]
-fn form(alloc: Global, names: &NameTable, word: Option<Word>, rest: &[Sym]) -> Result<ClauseKind, Miss>
+fn form(
+    alloc: Global,
+    names: &NameTable,
+    word: Option<Word>,
+    rest: &[Sym],
+) -> Result<ClauseKind, Miss>
     ensures { Gives says_of result (spec.form_in names.now word rest.now) }
 {
     match word {

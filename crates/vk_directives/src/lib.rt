@@ -9,3 +9,6 @@ pub mod miss;
 pub mod words;
 
 pub use directives::{read_clauses, read_directive};
+
+#[cfg(test)]
+mod tests;

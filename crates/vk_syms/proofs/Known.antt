@@ -51,13 +51,13 @@ module _ (names : List (List ℕ)) where
   placed_known before [] all = λ k d within. absurd (omega arith)
   placed_known before (t ∷ ts) all =
       all_cons (λ p. IsKnown names (sym_of names p).kind) (place before t) (placed (before ++ t ∷ []) ts)
-          (sym_known (number (place before t)) t.kind (all_head (λ t. IsNamed names t.kind) t ts all))
-          (placed_known (before ++ t ∷ []) ts (all_tail (λ t. IsNamed names t.kind) t ts all))
+      (sym_known (number (place before t)) t.kind (all_head (λ t. IsNamed names t.kind) t ts all))
+      (placed_known (before ++ t ∷ []) ts (all_tail (λ t. IsNamed names t.kind) t ts all))
 
   kept_known : (test : Placed → Bool) (ts : List Token) → All (λ t. IsNamed names t.kind) ts → All (λ s. IsKnown names s.kind) (map (sym_of names) (filter test (placed [] ts)))
   kept_known test ts all =
       All-map (λ s. IsKnown names s.kind) (sym_of names) (filter test (placed [] ts))
-          (All-filter test (λ p. IsKnown names (sym_of names p).kind) (placed [] ts) (placed_known [] ts all))
+      (All-filter test (λ p. IsKnown names (sym_of names p).kind) (placed [] ts) (placed_known [] ts all))
 
   pub outside_known : (ts : List Token) → All (λ t. IsNamed names t.kind) ts → All (λ s. IsKnown names s.kind) (outside names ts)
   unfolding outside
@@ -103,7 +103,7 @@ module _ (names : List (List ℕ)) where
   unfolding outside
   outside_line ts =
       All-map (λ s. HasLine (begun ts) s.kind) (sym_of names) (filter stands_outside (placed [] ts))
-          (All-filter stands_outside (λ p. HasLine (begun ts) (sym_of names p).kind) (placed [] ts) (placed_line (begun ts) [] ts (omega arith)))
+      (All-filter stands_outside (λ p. HasLine (begun ts) (sym_of names p).kind) (placed [] ts) (placed_line (begun ts) [] ts (omega arith)))
 
 -- what the loop leaves
 module _ (names : List (List ℕ)) (ts : List Token) (at : ℕ) {syms : List Sym} {lines : List (List Sym)} {ends : ℕ} (l : Splitting names ts at syms lines ends) (over : length ts ≤ at)
@@ -119,4 +119,4 @@ module _ (names : List (List ℕ)) (ts : List Token) (at : ℕ) {syms : List Sym
   syms_numbered count is =
       let split = finished names ts at l over in
       subst (λ (n : ℕ). All (λ s. HasLine n s.kind) syms) (sym split.count ∙ is)
-          (subst (λ (x : List Sym). All (λ s. HasLine (begun ts) s.kind) x) (sym split.syms_are) (outside_line names ts))
+      (subst (λ (x : List Sym). All (λ s. HasLine (begun ts) s.kind) x) (sym split.syms_are) (outside_line names ts))
