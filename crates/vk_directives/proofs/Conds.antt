@@ -1,8 +1,8 @@
 -- Whole expressions.
-use Rattle.std.proofs.Common.{◌≡◌, ◌≤◌, ℕ, suc, List, [], length, Option, Some, None, Result, Ok, Err, refl, sym, ap, ◌∙◌, subst, arith}
+use Rattle.std.proofs.Common.{◌≡◌, ◌≤◌, ℕ, suc, List, length, Option, Some, None, Result, Ok, Err, refl, ap, subst, arith}
 use Rattle.vk_ast.specs.Tree.{Tree}
 use Rattle.vk_grammar.specs.declared.symbols.Sym.{Sym}
-use Rattle.vk_grammar.specs.Grammar.{Tall, tall, full, Spells}
+use Rattle.vk_grammar.specs.Grammar.{Tall, full, Spells}
 use Rattle.vk_grammar.specs.Parser.{Fault}
 use Rattle.vk_grammar.specs.Reading.{whole_expression}
 use Rattle.vk_grammar.proofs.Theorem as theorem

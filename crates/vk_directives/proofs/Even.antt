@@ -1,5 +1,5 @@
 -- Parentheses match in the text of each expression.
-use Rattle.std.proofs.Common.{◌≡◌, ℕ, ◌+◌, ◌-◌, ◌≤◌, Bool, true, false, cond, nat_le, List, [], ◌∷◌, ◌++◌, length, Some, refl, sym, ap, ◌∙◌, subst, append_assoc, length-append, arith}
+use Rattle.std.proofs.Common.{◌≡◌, ℕ, ◌+◌, ◌-◌, true, false, nat_le, List, [], ◌∷◌, ◌++◌, length, Some, refl, sym, ap, ◌∙◌, subst, append_assoc, length-append, arith}
 use Rattle.std.proofs.lemmas.Bool.{false_from_ne_true, false≢true}
 use Rattle.std.proofs.lemmas.Bool.Decides.{nat_tests}
 use Rattle.vk_ast.specs.declared.expressions.BinOp.{BinOp}
@@ -11,7 +11,7 @@ use Rattle.vk_grammar.specs.declared.symbols.SymKind.{SymKind}
 use Rattle.vk_grammar.specs.declared.symbols.SymKind.TheVariants as kind
 use Rattle.vk_grammar.specs.declared.symbols.Prefix.{Prefix}
 use Rattle.vk_grammar.specs.Symbols.{Is, IsSign, IsPrefix, IsOperator, is_sign, same_mark, prefix_at, prefix_of, operator_at, operator_of, is_type_part}
-use Rattle.vk_grammar.specs.Types.{AreTypeParts, no_parts, a_part, IsType}
+use Rattle.vk_grammar.specs.Types.{AreTypeParts, no_parts, a_part}
 use Rattle.vk_grammar.specs.Grammar.{Tall, Sort, Spells, a_prefix, a_cast, a_post, lower, a_binary, plain, a_choice, IsPost, an_int, a_name, a_call, a_group, an_index, AreArgs, no_args, some_args, AreMore, none_more, one_more}
 use Rattle.vk_grammar.proofs.Signs.{sign_kind, sign_is}
 use Rattle.vk_directives.specs.Cuts.{is_open, is_close, group_len}

@@ -1,22 +1,17 @@
 -- What the reader of a clause tells, against the relation.
-use Rattle.std.proofs.Common.{◌≡◌, ℕ, zero, suc, ◌+◌, ◌-◌, ◌<◌, ◌≤◌, Bool, true, false, ◌&&◌, cond, List, [], ◌∷◌, ◌++◌, length, take, drop, Option, Some, None, refl, sym, ap, ap₂, ◌∙◌, subst, append_assoc, arith, length-append}
+use Rattle.std.proofs.Common.{◌≡◌, suc, ◌-◌, Bool, true, false, ◌&&◌, cond, List, [], ◌∷◌, ◌++◌, length, take, Option, Some, None, refl, sym, ap, ◌∙◌, subst, arith, length-append}
 use Rattle.std.proofs.lemmas.Bool.{false≢true}
 use Rattle.std.proofs.Math.Seq.{take-append_seam}
 use Rattle.vk_ast.specs.declared.names.NameId.{NameId}
-use Rattle.vk_ast.specs.Tree.{Tree}
-use Rattle.vk_ast.specs.Directives.{Says, ClauseTree}
 use Rattle.vk_tokens.specs.declared.tokens.Mark.TheVariants as mark
 use Rattle.vk_grammar.specs.declared.symbols.Sym.{Sym}
 use Rattle.vk_grammar.specs.declared.symbols.SymKind.{SymKind}
 use Rattle.vk_grammar.specs.declared.symbols.SymKind.TheVariants as kind
-use Rattle.vk_grammar.specs.Symbols.{Is, IsSign, is_sign}
+use Rattle.vk_grammar.specs.Symbols.{Is, IsSign}
 use Rattle.vk_grammar.proofs.Signs.{sign_kind, sign_is}
-use Rattle.vk_directives.specs.declared.words.Word.{Word}
-use Rattle.vk_directives.specs.declared.words.Word.TheVariants as word
-use Rattle.vk_directives.specs.Words.{word_at}
-use Rattle.vk_directives.specs.Cuts.{is_open, is_close, is_comma, is_colon}
-use Rattle.vk_directives.specs.Clauses.{IsCond, Wraps, in_parens, AreIds, one_id, more_ids}
-use Rattle.vk_directives.specs.Reading.{◌>>=◌, cond_in, name_in, ids_step, ids_in, without_last, last_closes, inside}
+use Rattle.vk_directives.specs.Cuts.{is_open, is_close, is_comma}
+use Rattle.vk_directives.specs.Clauses.{Wraps, in_parens, AreIds, one_id, more_ids}
+use Rattle.vk_directives.specs.Reading.{◌>>=◌, name_in, ids_step, ids_in, without_last, last_closes, inside}
 
 pub some_is : {A : Type 0} {a b : A} → Some a ≡ Some b → a ≡ b
 some_is e = cc

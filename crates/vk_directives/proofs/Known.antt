@@ -1,5 +1,5 @@
 -- What the reader of clauses tells, against the relation.
-use Rattle.std.proofs.Common.{◌≡◌, ℕ, zero, suc, ◌+◌, ◌<◌, ◌≤◌, Bool, true, false, ◌&&◌, cond, List, [], ◌∷◌, ◌++◌, length, take, drop, unwrap_or, Option, Some, None, refl, sym, ap, ◌∙◌, subst, inl, inr, length-drop, arith}
+use Rattle.std.proofs.Common.{◌≡◌, ℕ, zero, suc, ◌+◌, ◌≤◌, Bool, true, false, ◌&&◌, cond, List, [], ◌∷◌, ◌++◌, length, take, drop, unwrap_or, Option, Some, None, refl, sym, ap, ◌∙◌, subst, inl, inr, length-drop, arith}
 use Rattle.std.proofs.lemmas.Bool.{cases_Bool, false≢true}
 use Rattle.vk_ast.specs.declared.names.NameId.{NameId}
 use Rattle.vk_ast.specs.Tree.{Tree}
@@ -13,9 +13,9 @@ use Rattle.vk_directives.specs.declared.words.Word.TheVariants as word
 use Rattle.vk_directives.specs.Words.{word_at}
 use Rattle.vk_directives.specs.Cuts.{is_any_word, is_comma, group_len, piece_len, begins_clause, skips_comma, before_colon, behind_colon}
 use Rattle.vk_directives.specs.Clauses.{Wraps, AreIds, IsForm, a_simdlen, a_uniform, an_aligned, an_aligned_to, a_linear, an_inbranch, a_notinbranch, HasForm, known, IsClause, of_a_form, of_no_form, AreClauses, no_clauses, behind_comma, a_clause}
-use Rattle.vk_directives.specs.Reading.{◌>>=◌, cond_in, ids_in, optional_in, inside, aligned_in, linear_in, alone, form_in, known_in, says_in, clauses_in, clauses_of}
+use Rattle.vk_directives.specs.Reading.{◌>>=◌, cond_in, ids_in, optional_in, inside, aligned_in, linear_in, form_in, known_in, says_in, clauses_in, clauses_of}
 use Rattle.vk_directives.proofs.Conds.{cond_only, cond_of}
-use Rattle.vk_directives.proofs.Forms.{some_is, Gave, gave, comma_of, ids_found, ids_only, inside_of, wraps}
+use Rattle.vk_directives.proofs.Forms.{some_is, gave, comma_of, ids_found, ids_only, inside_of, wraps}
 use Rattle.vk_directives.proofs.Colons.{none_ids, before_plain, behind_plain, before_u, behind_u, cut, uncut}
 use Rattle.vk_directives.proofs.Linears.{linear_found, linear_only}
 

@@ -1,5 +1,5 @@
 -- What the reader of `linear` tells, against the relation.
-use Rattle.std.proofs.Common.{◌≡◌, ℕ, zero, suc, ◌+◌, ◌<◌, ◌≤◌, Bool, true, false, ◌&&◌, cond, List, [], ◌∷◌, ◌++◌, length, take, drop, Option, Some, None, refl, sym, ap, ap₂, ◌∙◌, subst, inl, inr, ◌⊎◌, append-nil, length-append, drop_of_length-le, arith}
+use Rattle.std.proofs.Common.{◌≡◌, ℕ, zero, suc, ◌+◌, ◌<◌, Bool, true, false, ◌&&◌, cond, List, [], ◌∷◌, ◌++◌, length, take, drop, Option, Some, None, refl, sym, ap, ap₂, ◌∙◌, subst, inl, inr, ◌⊎◌, append-nil, length-append, drop_of_length-le, arith}
 use Rattle.std.proofs.Math.Seq.{take-append_seam, drop-append_seam}
 use Rattle.std.proofs.lemmas.List.{take_all, take-append-drop}
 use Rattle.vk_ast.specs.declared.names.NameId.{NameId}
@@ -19,8 +19,8 @@ use Rattle.vk_directives.specs.Clauses.{Part, worded, step, modifier_of, modifie
 use Rattle.vk_directives.specs.Reading.{◌>>=◌, cond_in, name_in, ids_in, inside, step_part, part_in, later_parts, parts_step, parts_in, modifiers_in, behind_ids, behind_group, ids_linear, modified_linear, linear_in}
 use Rattle.vk_directives.proofs.Conds.{cond_only, cond_of}
 use Rattle.vk_directives.proofs.Even.{even_of, group_is}
-use Rattle.vk_directives.proofs.Forms.{some_is, Gave, gave, chose, a_name, name_of, comma_of, open_of, ids_found, ids_only, inside_of, wraps}
-use Rattle.vk_directives.proofs.Colons.{none_ids, none_group, before_plain, behind_plain, before_u, behind_u, Cut, cut, uncut}
+use Rattle.vk_directives.proofs.Forms.{some_is, gave, chose, a_name, name_of, comma_of, ids_found, ids_only, inside_of, wraps}
+use Rattle.vk_directives.proofs.Colons.{none_ids, none_group, before_plain, behind_plain, before_u, behind_u, cut, uncut}
 
 -- which of two gave something
 pub either : {A : Type 0} (b : Bool) (p q : Option A) {a : A} → cond b p q ≡ Some a → ((b ≡ true) × (p ≡ Some a)) ⊎ ((b ≡ false) × (q ≡ Some a))

@@ -1,12 +1,12 @@
 -- Lists that are read item by item.
-use Rattle.std.proofs.Common.{◌≡◌, ℕ, ◌+◌, ◌-◌, ◌<◌, ◌≤◌, suc, Bool, true, false, cond, List, [], ◌∷◌, ◌++◌, length, take, drop, get_or, slice_get, unwrap_or, Option, Some, None, refl, sym, ap, ◌∙◌, subst, append_assoc, length-drop, arith}
+use Rattle.std.proofs.Common.{◌≡◌, ℕ, ◌-◌, ◌≤◌, true, List, [], ◌∷◌, ◌++◌, length, take, drop, get_or, slice_get, unwrap_or, Option, Some, None, refl, sym, ap, ◌∙◌, append_assoc, arith}
 use Rattle.std.proofs.lemmas.List.{take_all}
 use Rattle.std.proofs.lemmas.Option.{slice_get_past}
 use Rattle.vk_ast.specs.declared.names.NameId.{NameId}
 use Rattle.vk_grammar.specs.declared.symbols.Sym.{Sym}
 use Rattle.vk_directives.specs.Words.{word_of}
 use Rattle.vk_directives.specs.Cuts.{is_comma}
-use Rattle.vk_directives.specs.Reading.{◌>>=◌, name_in, ids_step, ids_in}
+use Rattle.vk_directives.specs.Reading.{◌>>=◌, name_in, ids_in}
 
 no_text : None ≡ word_of []
 unfolding word_of

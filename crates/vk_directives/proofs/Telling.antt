@@ -1,5 +1,5 @@
 -- The loop over the clauses of a line.
-use Rattle.std.proofs.Common.{◌≡◌, ℕ, zero, suc, ◌+◌, ◌-◌, ◌<◌, ◌≤◌, Bool, true, false, ◌&&◌, cond, List, [], ◌∷◌, ◌++◌, length, take, drop, get_or, refl, sym, ap, ◌∙◌, subst, append-nil, append_assoc, length-drop, arith}
+use Rattle.std.proofs.Common.{◌≡◌, ℕ, zero, suc, ◌-◌, ◌<◌, ◌≤◌, true, false, List, [], ◌∷◌, ◌++◌, length, take, drop, get_or, refl, sym, ap, ◌∙◌, subst, append-nil, append_assoc, length-drop, arith}
 use Rattle.std.proofs.lemmas.List.{take_all}
 use Rattle.vk_ast.specs.Directives.{Says, ClauseTree}
 use Rattle.vk_grammar.specs.declared.symbols.Sym.{Sym}

@@ -1,6 +1,6 @@
 -- Names are in the table, and lines have numbers.
-use Rattle.std.proofs.Common.{◌≡◌, ℕ, ◌+◌, ◌<◌, ◌≤◌, ◌-◌, zero, suc, get_or, Bool, true, false, cond, List, [], ◌∷◌, ◌++◌, map, filter, length, count_by, slice_get, unwrap_or, Option, Some, None, refl, sym, ap, ◌∙◌, subst, append_assoc, arith}
-use Rattle.std.specs.List.{All, list_any}
+use Rattle.std.proofs.Common.{◌≡◌, ℕ, ◌+◌, ◌<◌, ◌≤◌, ◌-◌, zero, suc, get_or, Bool, true, false, cond, List, [], ◌∷◌, ◌++◌, map, filter, length, slice_get, unwrap_or, Option, Some, None, refl, sym, ap, ◌∙◌, subst, append_assoc, arith}
+use Rattle.std.specs.List.{All}
 use Rattle.std.proofs.lemmas.List.Elements.{All-map, All-filter}
 use Rattle.std.proofs.lemmas.List.Sums.{sum_by-append}
 use Rattle.vk_ast.specs.declared.names.NameId.{NameId}
@@ -11,7 +11,7 @@ use Rattle.vk_tokens.specs.Names.{IsNamed}
 use Rattle.vk_grammar.specs.declared.symbols.Keyword.{Keyword}
 use Rattle.vk_grammar.specs.declared.symbols.TypeWord.{TypeWord}
 use Rattle.vk_grammar.specs.declared.symbols.Sym.{Sym}
-use Rattle.vk_syms.specs.Words.{keyword_of, type_word_of, is_left_out, rarer_kind, other_kind, kind_for, name_kind}
+use Rattle.vk_syms.specs.Words.{keyword_of, type_word_of, is_left_out, rarer_kind, other_kind, kind_for}
 use Rattle.vk_syms.specs.Lines.{is_heading, begun, Placed, place, placed, number, stands_outside, is_clause_of, sym_kind, sym_of, outside, clauses}
 use Rattle.vk_syms.specs.Syms.{IsKnown, HasLine}
 use Rattle.vk_syms.proofs.Split.{begun_push, Splitting, finished}

@@ -1,5 +1,5 @@
 -- Runs of words of types, token by token.
-use Rattle.std.proofs.Common.{◌≡◌, ℕ, ◌+◌, ◌-◌, ◌<◌, ◌≤◌, suc, Bool, true, false, cond, List, [], ◌∷◌, ◌++◌, length, take, drop, get_or, reverse, take_while, Some, None, Option, refl, sym, ap, ◌∙◌, inl, inr, length-drop, drop_of_length-le, arith}
+use Rattle.std.proofs.Common.{◌≡◌, ℕ, ◌+◌, ◌-◌, ◌<◌, ◌≤◌, Bool, true, false, cond, List, [], ◌∷◌, ◌++◌, length, take, drop, get_or, reverse, take_while, Some, refl, sym, ap, ◌∙◌, inl, inr, length-drop, drop_of_length-le, arith}
 use Rattle.std.proofs.lemmas.Bool.{cases_lt, cases_order, false≢true}
 use Rattle.std.proofs.lemmas.List.{reverse-append, take_more, take_all}
 use Rattle.std.proofs.lemmas.List.Sums.{take_while-cons}
@@ -7,9 +7,8 @@ use Rattle.vk_grammar.specs.declared.symbols.Sym.{Sym}
 use Rattle.vk_grammar.specs.declared.symbols.SymKind.{SymKind}
 use Rattle.vk_grammar.specs.declared.symbols.SymKind.TheVariants as kind
 use Rattle.vk_grammar.specs.declared.symbols.Keyword.TheVariants as keyword
-use Rattle.vk_grammar.specs.declared.symbols.TypeWord.{TypeWord}
 use Rattle.vk_grammar.specs.Symbols.{is_type_part}
-use Rattle.vk_grammar.specs.Types.{words_of, has_words, word_before}
+use Rattle.vk_grammar.specs.Types.{words_of, has_words}
 use Rattle.vk_words.specs.Faults.{run_of, ends_in_words, goes_on, is_front_fault, is_fault, IsC7}
 
 -- the run before the next token, from its end

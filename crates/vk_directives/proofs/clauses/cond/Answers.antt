@@ -1,4 +1,4 @@
-use Rattle.std.proofs.Common.{◌≡◌, sym, ◌∙◌}
+use Rattle.std.proofs.Common.{sym, ◌∙◌}
 use Rattle.vk_directives.proofs.Conds.{cond_found, cond_none}
 use Rattle.vk_directives.proofs.clauses.cond.Goals as goal
 

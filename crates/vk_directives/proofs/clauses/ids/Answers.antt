@@ -1,4 +1,4 @@
-use Rattle.std.proofs.Common.{◌≡◌, refl, sym, ap, ◌∙◌}
+use Rattle.std.proofs.Common.{sym, ◌∙◌}
 use Rattle.vk_directives.proofs.Lists.{ids_next}
 use Rattle.vk_directives.proofs.clauses.ids.Goals as goal
 

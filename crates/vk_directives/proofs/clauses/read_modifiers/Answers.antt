@@ -1,4 +1,4 @@
-use Rattle.std.proofs.Common.{◌≡◌, sym, ◌∙◌}
+use Rattle.std.proofs.Common.{sym, ◌∙◌}
 use Rattle.vk_directives.proofs.Summing.{start, last_of, next_of}
 use Rattle.vk_directives.proofs.clauses.read_modifiers.Goals as goal
 

@@ -1,4 +1,3 @@
-use Rattle.std.proofs.Common.{sym, ap, ◌∙◌}
 use Rattle.vk_directives.specs.Cuts.{is_colon}
 use Rattle.vk_directives.proofs.Cutting.{place_of, no_place_of, before_at, behind_at, before_none, behind_none}
 use Rattle.vk_directives.proofs.cuts.at_colon.Goals as goal

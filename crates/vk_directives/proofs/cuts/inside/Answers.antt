@@ -1,5 +1,5 @@
-use Rattle.std.proofs.Common.{sym, ◌∙◌, arith}
-use Rattle.vk_directives.proofs.Cutting.{closed, not_closed, not_open, not_inside}
+use Rattle.std.proofs.Common.{sym, ◌∙◌}
+use Rattle.vk_directives.proofs.Cutting.{closed, not_closed}
 use Rattle.vk_directives.proofs.cuts.inside.Goals as goal
 
 pub returns-then-is_close : goal.returns-then-is_close

@@ -1,4 +1,4 @@
-use Rattle.std.proofs.Common.{◌≡◌, ◌≤◌, sym, ◌∙◌, arith, map}
+use Rattle.std.proofs.Common.{◌≤◌, sym, ◌∙◌, map}
 use Rattle.std.proofs.lemmas.List.{map_push}
 use Rattle.vk_ast.specs.Directives.{clause_of}
 use Rattle.vk_grammar.specs.declared.symbols.SymKind.TheVariants as kind

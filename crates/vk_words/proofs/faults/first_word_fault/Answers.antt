@@ -1,7 +1,7 @@
-use Rattle.std.proofs.Common.{◌≡◌, ◌<◌, ◌-◌, ℕ, Some, length, refl, sym, ap, ◌∙◌, arith, rules}
+use Rattle.std.proofs.Common.{◌-◌, Some, length, refl, sym, ap, ◌∙◌, arith}
 use Rattle.vk_words.specs.Faults.{ends_in_words, run_of, IsC7}
 use Rattle.vk_grammar.specs.Types.{words_of}
-use Rattle.vk_words.proofs.Runs.{tested, next_run, next_clear, a_place, no_place, one_place}
+use Rattle.vk_words.proofs.Runs.{tested, next_run, next_clear, a_place, one_place}
 use Rattle.vk_words.proofs.faults.first_word_fault.Goals as goal
 
 pub loop-at-init : goal.loop-at-init

@@ -1,4 +1,4 @@
-use Rattle.std.proofs.Common.{◌≡◌, sym, ap, ap₂, ◌∙◌, Some, cond}
+use Rattle.std.proofs.Common.{sym, ap, ap₂, ◌∙◌, Some}
 use Rattle.vk_ast.specs.Tree.{expr_of}
 use Rattle.vk_directives.specs.Parts.{next_word, word_after, step_after}
 use Rattle.vk_directives.proofs.Sums.{with_word, step_by_word, with_step, step_by_step}
