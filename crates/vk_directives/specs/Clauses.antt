@@ -7,7 +7,7 @@
 --   ids     = ID { "," ID }
 --
 -- A word and what stands in parentheses directly behind it, or any other token, is a clause `Other` where it is none of these.
-use Rattle.std.specs.Prelude.{◌≡◌, ℕ, ◌<◌, ◌≤◌, Bool, true, false, cond, nat_lt, List, [], ◌∷◌, ◌++◌, length, take, drop, Option, Some, None}
+use Rattle.std.specs.Prelude.{◌≡◌, ℕ, ◌≤◌, true, false, cond, nat_lt, List, [], ◌∷◌, ◌++◌, length, take, drop, Option, Some, None}
 use Rattle.vk_ast.specs.declared.names.NameId.{NameId}
 use Rattle.vk_ast.specs.declared.directives.Modifier.{Modifier}
 use Rattle.vk_ast.specs.declared.directives.Modifier.TheVariants as modifier

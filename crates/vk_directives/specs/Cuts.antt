@@ -1,7 +1,6 @@
 -- How the tokens of a directive line are cut: into clauses, and at a `:` or a comma in one of them.
 use Rattle.std.specs.Prelude.{ℕ, ◌+◌, ◌-◌, Bool, true, false, not, ◌&&◌, ◌||◌, cond, nat_le, List, [], ◌∷◌, drop, Option, Some, None}
 use Rattle.std.specs.List.{before_first, position_or_len}
-use Rattle.vk_tokens.specs.declared.tokens.Mark.{Mark}
 use Rattle.vk_tokens.specs.declared.tokens.Mark.TheVariants as mark
 use Rattle.vk_grammar.specs.declared.symbols.Sym.{Sym}
 use Rattle.vk_grammar.specs.declared.symbols.SymKind.{SymKind}

@@ -1,7 +1,6 @@
 -- The words of clauses (OpenMP 5.2, declare simd), which are names with these texts.
-use Rattle.std.specs.Prelude.{ℕ, List, [], ◌∷◌, codes, slice_get, Option, Some, None}
+use Rattle.std.specs.Prelude.{ℕ, List, [], ◌∷◌, codes, slice_get, Option, None}
 use Rattle.std.specs.Option.{unwrap_or}
-use Rattle.vk_ast.specs.declared.names.NameId.{NameId}
 use Rattle.vk_grammar.specs.declared.symbols.SymKind.{SymKind}
 use Rattle.vk_grammar.specs.declared.symbols.SymKind.TheVariants as kind
 use Rattle.vk_syms.specs.Words.{with_text}

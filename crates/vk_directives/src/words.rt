@@ -1,11 +1,11 @@
 // The words of clauses (OpenMP 5.2, declare simd).
 
-ghost use Rattle.std.specs.Prelude.{◌≡◌};
+ghost use Rattle.std.specs.Prelude.{◌≡◌, [], slice_get};
+ghost use Rattle.std.specs.Option.{unwrap_or};
 ghost use Rattle.vk_syms.specs.Words.{with_text};
-ghost use Rattle.vk_syms.specs.Syms.{IsKnown};
 ghost use Rattle.vk_directives.specs.Words.{word_text, word_of, word_at};
 
-use vk_ast::NameTable;
+use vk_ast::{NameId, NameTable};
 use vk_grammar::SymKind;
 
 /// A word of a clause.
@@ -72,13 +72,23 @@ fn word_of(text: &[u8]) -> Option<Word>
     first_word(&WORDS, text)
 }
 
+// The word with the text of this name; a name that is not in the table has none.
+fn named_word(names: &NameTable, id: NameId) -> Option<Word>
+    ensures { result ≡ word_of (unwrap_or (slice_get names.now id.0) []) }
+{
+    if (id.0 as usize) < names.len() {
+        word_of(names.text(id))
+    } else {
+        None
+    }
+}
+
 /// The word that a token is.
 pub fn word_at(names: &NameTable, kind: SymKind) -> Option<Word>
-    requires { IsKnown names.now kind }
     ensures { result ≡ word_at names.now kind }
 {
     match kind {
-        SymKind::Name(id) => word_of(names.text(id)),
+        SymKind::Name(id) => named_word(names, id),
         _ => None,
     }
 }

@@ -1,6 +1,6 @@
 -- Names are in the table, and lines have numbers.
-use Rattle.std.proofs.Common.{◌≡◌, ℕ, ◌+◌, ◌<◌, ◌≤◌, ◌-◌, zero, suc, get_or, Bool, true, false, cond, List, [], ◌∷◌, ◌++◌, map, filter, length, count_by, slice_get, unwrap_or, Option, Some, None, refl, sym, ap, ◌∙◌, subst, append_assoc, arith}
-use Rattle.std.specs.List.{All, list_any}
+use Rattle.std.proofs.Common.{◌≡◌, ℕ, ◌+◌, ◌<◌, ◌≤◌, ◌-◌, zero, suc, get_or, Bool, true, false, cond, List, [], ◌∷◌, ◌++◌, map, filter, length, slice_get, unwrap_or, Option, Some, None, refl, sym, ap, ◌∙◌, subst, append_assoc, arith}
+use Rattle.std.specs.List.{All}
 use Rattle.std.proofs.lemmas.List.Elements.{All-map, All-filter}
 use Rattle.std.proofs.lemmas.List.Sums.{sum_by-append}
 use Rattle.vk_ast.specs.declared.names.NameId.{NameId}
@@ -11,7 +11,7 @@ use Rattle.vk_tokens.specs.Names.{IsNamed}
 use Rattle.vk_grammar.specs.declared.symbols.Keyword.{Keyword}
 use Rattle.vk_grammar.specs.declared.symbols.TypeWord.{TypeWord}
 use Rattle.vk_grammar.specs.declared.symbols.Sym.{Sym}
-use Rattle.vk_syms.specs.Words.{keyword_of, type_word_of, is_left_out, rarer_kind, other_kind, kind_for, name_kind}
+use Rattle.vk_syms.specs.Words.{keyword_of, type_word_of, is_left_out, rarer_kind, other_kind, kind_for}
 use Rattle.vk_syms.specs.Lines.{is_heading, begun, Placed, place, placed, number, stands_outside, is_clause_of, sym_kind, sym_of, outside, clauses}
 use Rattle.vk_syms.specs.Syms.{IsKnown, HasLine}
 use Rattle.vk_syms.proofs.Split.{begun_push, Splitting, finished}
@@ -51,13 +51,13 @@ module _ (names : List (List ℕ)) where
   placed_known before [] all = λ k d within. absurd (omega arith)
   placed_known before (t ∷ ts) all =
       all_cons (λ p. IsKnown names (sym_of names p).kind) (place before t) (placed (before ++ t ∷ []) ts)
-          (sym_known (number (place before t)) t.kind (all_head (λ t. IsNamed names t.kind) t ts all))
-          (placed_known (before ++ t ∷ []) ts (all_tail (λ t. IsNamed names t.kind) t ts all))
+      (sym_known (number (place before t)) t.kind (all_head (λ t. IsNamed names t.kind) t ts all))
+      (placed_known (before ++ t ∷ []) ts (all_tail (λ t. IsNamed names t.kind) t ts all))
 
   kept_known : (test : Placed → Bool) (ts : List Token) → All (λ t. IsNamed names t.kind) ts → All (λ s. IsKnown names s.kind) (map (sym_of names) (filter test (placed [] ts)))
   kept_known test ts all =
       All-map (λ s. IsKnown names s.kind) (sym_of names) (filter test (placed [] ts))
-          (All-filter test (λ p. IsKnown names (sym_of names p).kind) (placed [] ts) (placed_known [] ts all))
+      (All-filter test (λ p. IsKnown names (sym_of names p).kind) (placed [] ts) (placed_known [] ts all))
 
   pub outside_known : (ts : List Token) → All (λ t. IsNamed names t.kind) ts → All (λ s. IsKnown names s.kind) (outside names ts)
   unfolding outside
@@ -103,7 +103,7 @@ module _ (names : List (List ℕ)) where
   unfolding outside
   outside_line ts =
       All-map (λ s. HasLine (begun ts) s.kind) (sym_of names) (filter stands_outside (placed [] ts))
-          (All-filter stands_outside (λ p. HasLine (begun ts) (sym_of names p).kind) (placed [] ts) (placed_line (begun ts) [] ts (omega arith)))
+      (All-filter stands_outside (λ p. HasLine (begun ts) (sym_of names p).kind) (placed [] ts) (placed_line (begun ts) [] ts (omega arith)))
 
 -- what the loop leaves
 module _ (names : List (List ℕ)) (ts : List Token) (at : ℕ) {syms : List Sym} {lines : List (List Sym)} {ends : ℕ} (l : Splitting names ts at syms lines ends) (over : length ts ≤ at)
@@ -119,4 +119,4 @@ module _ (names : List (List ℕ)) (ts : List Token) (at : ℕ) {syms : List Sym
   syms_numbered count is =
       let split = finished names ts at l over in
       subst (λ (n : ℕ). All (λ s. HasLine n s.kind) syms) (sym split.count ∙ is)
-          (subst (λ (x : List Sym). All (λ s. HasLine (begun ts) s.kind) x) (sym split.syms_are) (outside_line names ts))
+      (subst (λ (x : List Sym). All (λ s. HasLine (begun ts) s.kind) x) (sym split.syms_are) (outside_line names ts))

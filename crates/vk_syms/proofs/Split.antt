@@ -1,8 +1,8 @@
 -- How the split of a unit's tokens grows by one token.
-use Rattle.std.proofs.Common.{◌≡◌, ◌≢◌, ℕ, ◌+◌, ◌-◌, ◌<◌, ◌≤◌, ◌==◌, suc, Bool, true, false, not, ◌&&◌, cond, nat_lt, List, [], ◌∷◌, ◌++◌, map, filter, take, length, count_by, get_or, set, refl, sym, ap, ap₂, ◌∙◌, subst, inl, inr,  append_assoc, arith, length-append}
+use Rattle.std.proofs.Common.{◌≡◌, ◌≢◌, ℕ, ◌+◌, ◌-◌, ◌<◌, ◌≤◌, ◌==◌, suc, Bool, true, false, not, ◌&&◌, cond, nat_lt, List, [], ◌∷◌, ◌++◌, map, filter, take, length, count_by, get_or, set, refl, sym, ap, ap₂, ◌∙◌, subst, inl, inr, append_assoc, arith, length-append}
 use Rattle.std.proofs.lemmas.List.{append-nil, map-append, map-set, get_or-map, get_or_push, get_or_append_left, get_or-set_same, get_or-set_other, length-set, length-map, length-take-le, take_more, take_all}
 use Rattle.std.proofs.lemmas.List.Elements.{filter-append}
-use Rattle.std.proofs.lemmas.List.Sums.{sum_by_push, count_by-le-length}
+use Rattle.std.proofs.lemmas.List.Sums.{sum_by_push}
 use Rattle.std.proofs.lemmas.Bool.{cases_lt, cases_order, cases_Bool, false≢true}
 use Rattle.std.proofs.lemmas.Bool.Decides.{nat_tests}
 use mir.Val.{bool_byte}
@@ -126,7 +126,7 @@ module _ (names : List (List ℕ)) (ts : List Token) (t : Token) where
           syms_are = syms_push;
           count = omega (arith, length-append lines ([] ∷ []), more, split.count);
           lines_are = λ k within. elim (cases_lt k (length lines)) [
-              inl below ↦ get_or_append_left lines ([] ∷ []) [] k below ∙ split.lines_are k below ∙ sym (none (suc k))
+            | inl below ↦ get_or_append_left lines ([] ∷ []) [] k below ∙ split.lines_are k below ∙ sym (none (suc k))
             | inr above ↦
                 let last : length lines ≡ k = omega (arith, length-append lines ([] ∷ [])) in
                 get_or_push lines [] [] k last ∙ sym (none (suc k) ∙ split.later_are (suc k) (omega (arith, split.count)))
@@ -145,17 +145,17 @@ module _ (names : List (List ℕ)) (ts : List Token) (t : Token) where
           syms_are = syms_push;
           count = length-set lines last grown ∙ split.count ∙ sym same;
           lines_are = λ k within. let below : k < length lines = omega (arith, length-set lines last grown) in elim (cases_order k last) [
-              inl here ↦
+            | inl here ↦
                 let is : number (place ts t) ≡ suc k = omega (arith, same, split.count) in
                 subst (λ (j : ℕ). get_or (with_last (sym_of names (place ts t)) lines) j [] ≡ clauses names (ts ++ t ∷ []) (suc k)) (sym here)
-                    (get_or-set_same lines last grown [] (omega arith) ∙ ap (λ (j : ℕ). get_or lines j [] ++ sym_of names (place ts t) ∷ []) (sym here)
-                        ∙ ap (λ (line : List Sym). line ++ sym_of names (place ts t) ∷ []) (split.lines_are k below)
-                        ∙ sym (a_clause (suc k) (clause_is_some (in_line (place ts t)) (is_heading t.kind) (is_line_end t.kind) (number (place ts t) == suc k) i h (equal _ _ is))))
+                (get_or-set_same lines last grown [] (omega arith) ∙ ap (λ (j : ℕ). get_or lines j [] ++ sym_of names (place ts t) ∷ []) (sym here)
+                ∙ ap (λ (line : List Sym). line ++ sym_of names (place ts t) ∷ []) (split.lines_are k below)
+                ∙ sym (a_clause (suc k) (clause_is_some (in_line (place ts t)) (is_heading t.kind) (is_line_end t.kind) (number (place ts t) == suc k) i h (equal _ _ is))))
             | inr apart ↦
                 let other : k ≢ last = λ e. elim apart [ inl x ↦ omega arith | inr x ↦ omega arith ] in
                 let far : number (place ts t) ≢ suc k = λ e. other (omega (arith, same, split.count)) in
                 get_or-set_other lines last k grown [] other ∙ split.lines_are k below
-                    ∙ sym (no_clause (suc k) (outside_is_none (in_line (place ts t)) (is_heading t.kind) (is_line_end t.kind) (number (place ts t) == suc k) (unequal _ _ far)))
+                ∙ sym (no_clause (suc k) (outside_is_none (in_line (place ts t)) (is_heading t.kind) (is_line_end t.kind) (number (place ts t) == suc k) (unequal _ _ far)))
           ];
           later_are = λ n above. no_clause n (outside_is_none (in_line (place ts t)) (is_heading t.kind) (is_line_end t.kind) (number (place ts t) == n) (unequal _ _ (λ e. omega arith))) ∙ split.later_are n (omega (arith, same));
           ends_are = split.ends_are ∙ sym (ended_push ∙ rw l refl);
@@ -178,11 +178,11 @@ module _ (names : List (List ℕ)) (ts : List Token) (t : Token) where
     pub step : (inside : Bool) (s : Sym) → inside ≡ in_line (place ts t) → s ≡ sym_of names (place ts t)
         → IsSplit names (ts ++ t ∷ []) (next_outside inside t.kind s syms) (next_lines inside t.kind s lines) (cond (is_line_end t.kind) (ends + 1) ends)
     step inside s i e = rw (i, e) (elim (cases_Bool (is_heading t.kind)) [
-        inl h ↦ let plain = heading_no_end t.kind h in moved (rw h refl) (rw plain refl) (with_heading h plain)
+      | inl h ↦ let plain = heading_no_end t.kind h in moved (rw h refl) (rw plain refl) (with_heading h plain)
       | inr h ↦ elim (cases_Bool (in_line (place ts t) && not (is_line_end t.kind))) [
-            inl c ↦ let plain = clause_no_end _ _ c in moved (rw (h, c) refl) (rw plain refl) (with_clause h c plain)
-          | inr c ↦ moved (rw (h, c) refl) refl (with_other h c)
-        ]
+        | inl c ↦ let plain = clause_no_end _ _ c in moved (rw (h, c) refl) (rw plain refl) (with_clause h c plain)
+        | inr c ↦ moved (rw (h, c) refl) refl (with_other h c)
+      ]
     ])
 
 -- ---- the loop
@@ -207,12 +207,12 @@ heads_less false n = sym (omega arith)
 
 set_length : (inside : Bool) (k : TokenKind) (s : Sym) (lines : List (List Sym)) (at : ℕ) → length lines ≤ at → length (next_lines inside k s lines) ≤ at + 1
 set_length inside k s lines at few = elim (is_heading k) as (λ h. length (cond h (lines ++ [] ∷ []) (cond (inside && not (is_line_end k)) (with_last s lines) lines)) ≤ at + 1) [
-    true ↦ omega (arith, length-append lines ([] ∷ []))
+  | true ↦ omega (arith, length-append lines ([] ∷ []))
   | false ↦ elim (inside && not (is_line_end k)) as (λ b. length (cond b (with_last s lines) lines) ≤ at + 1) [
-      true ↦ let last = length lines - 1 in omega (arith, length-set lines last (get_or lines last [] ++ s ∷ []))
+    | true ↦ let last = length lines - 1 in omega (arith, length-set lines last (get_or lines last [] ++ s ∷ []))
     | false ↦ omega arith
-    ]
   ]
+]
 
 at_most : (b : Bool) (n at : ℕ) → n ≤ at → n + cond b 1 0 ≤ at + 1
 at_most true n at h = omega arith
@@ -226,7 +226,7 @@ pub next : (names : List (List ℕ)) (ts all : List Token) (at : ℕ) (d t : Tok
     → Splitting names ts at syms lines ends → at < length ts → all ≡ ts → get_or all at d ≡ t → count ≡ length lines
     → more ≡ bool_byte (is_heading t.kind) → kind ≡ sym_kind names (count + more) t.kind → later ≡ bool_byte (is_line_end t.kind)
     → let s : Sym = record { line = t.line; at = at; kind = kind } in
-      Splitting names ts (at + 1) (next_outside (nat_lt ends count) t.kind s syms) (next_lines (nat_lt ends count) t.kind s lines) (ends + later)
+    Splitting names ts (at + 1) (next_outside (nat_lt ends count) t.kind s syms) (next_lines (nat_lt ends count) t.kind s lines) (ends + later)
 next names ts all at d t syms lines ends count kind more later l within same_list found c m k e =
     let front = take at ts in
     let inside = nat_lt ends count in
@@ -235,9 +235,9 @@ next names ts all at d t syms lines ends count kind more later l within same_lis
     let s : Sym = record { line = t.line; at = at; kind = kind } in
     let longer : take (at + 1) ts ≡ front ++ t ∷ [] = take_more ts at d within ∙ ap (λ (x : Token). front ++ x ∷ []) is in
     let number : count + more ≡ begun (front ++ t ∷ []) =
-        ap₂ (λ (a b : ℕ). a + b) (c ∙ l.split.count) (m ∙ as_cond (is_heading t.kind)) ∙ sym (begun_push names front t ∙ heads_less (is_heading t.kind) (begun front)) in
+    ap₂ (λ (a b : ℕ). a + b) (c ∙ l.split.count) (m ∙ as_cond (is_heading t.kind)) ∙ sym (begun_push names front t ∙ heads_less (is_heading t.kind) (begun front)) in
     let same : s ≡ sym_of names (place front t) =
-        ap₂ (λ (n : ℕ) (x : SymKind). let y : Sym = record { line = t.line; at = n; kind = x } in y) (sym len) (k ∙ ap (λ n. sym_kind names n t.kind) number) in
+    ap₂ (λ (n : ℕ) (x : SymKind). let y : Sym = record { line = t.line; at = n; kind = x } in y) (sym len) (k ∙ ap (λ n. sym_kind names n t.kind) number) in
     let split = step names front t l.split inside s (ap (λ n. nat_lt ends n) c ∙ inside_is names front t l.split) same in
     record {
       split = rw (longer, e, as_cond (is_line_end t.kind)) (moved refl (sym (heads_less (is_line_end t.kind) ends)) split);

@@ -1,6 +1,6 @@
 -- Keywords and words of types by their texts.
 use Rattle.std.specs.Prelude.{ℕ, nat_eq, Bool, List, [], ◌∷◌, codes, Option, Some, None, if◌then◌else◌}
-use Rattle.std.specs.List.{find, list_any}
+use Rattle.std.specs.List.{list_any}
 use Rattle.std.specs.Cmp.Lexicographic.{pointwise}
 use Rattle.vk_ast.specs.declared.names.NameId.{NameId}
 use Rattle.vk_grammar.specs.declared.symbols.SymKind.{SymKind}

@@ -5,3 +5,6 @@ pub mod lines;
 pub mod words;
 
 pub use lines::{Syms, classify};
+
+#[cfg(test)]
+mod tests;

@@ -1,5 +1,5 @@
 -- Runs of words of types, token by token.
-use Rattle.std.proofs.Common.{◌≡◌, ℕ, ◌+◌, ◌-◌, ◌<◌, ◌≤◌, suc, Bool, true, false, cond, List, [], ◌∷◌, ◌++◌, length, take, drop, get_or, reverse, take_while, Some, None, Option, refl, sym, ap, ◌∙◌, inl, inr, length-drop, drop_of_length-le, arith}
+use Rattle.std.proofs.Common.{◌≡◌, ℕ, ◌+◌, ◌-◌, ◌<◌, ◌≤◌, Bool, true, false, cond, List, [], ◌∷◌, ◌++◌, length, take, drop, get_or, reverse, take_while, Some, refl, sym, ap, ◌∙◌, inl, inr, length-drop, drop_of_length-le, arith}
 use Rattle.std.proofs.lemmas.Bool.{cases_lt, cases_order, false≢true}
 use Rattle.std.proofs.lemmas.List.{reverse-append, take_more, take_all}
 use Rattle.std.proofs.lemmas.List.Sums.{take_while-cons}
@@ -7,9 +7,8 @@ use Rattle.vk_grammar.specs.declared.symbols.Sym.{Sym}
 use Rattle.vk_grammar.specs.declared.symbols.SymKind.{SymKind}
 use Rattle.vk_grammar.specs.declared.symbols.SymKind.TheVariants as kind
 use Rattle.vk_grammar.specs.declared.symbols.Keyword.TheVariants as keyword
-use Rattle.vk_grammar.specs.declared.symbols.TypeWord.{TypeWord}
 use Rattle.vk_grammar.specs.Symbols.{is_type_part}
-use Rattle.vk_grammar.specs.Types.{words_of, has_words, word_before}
+use Rattle.vk_grammar.specs.Types.{words_of, has_words}
 use Rattle.vk_words.specs.Faults.{run_of, ends_in_words, goes_on, is_front_fault, is_fault, IsC7}
 
 -- the run before the next token, from its end
@@ -32,12 +31,12 @@ goes before t b e = by_kind before t b t.kind e refl ∙ sym (ends_by before t)
 -- there is one first place
 pub one_place : {w : List Sym} {n m : ℕ} → IsC7 w n → IsC7 w m → n ≡ m
 one_place {w = w} a b = elim (cases_order a.at b.at) [
-    inl same ↦ a.left ∙ ap (λ k. length w - k) same ∙ sym b.left
+  | inl same ↦ a.left ∙ ap (λ k. length w - k) same ∙ sym b.left
   | inr apart ↦ elim apart [
-      inl below ↦ absurd (false≢true (sym (b.first a.at below) ∙ a.fault))
+    | inl below ↦ absurd (false≢true (sym (b.first a.at below) ∙ a.fault))
     | inr above ↦ absurd (false≢true (sym (a.first b.at above) ∙ b.fault))
-    ]
   ]
+]
 
 -- ---- the loop
 
@@ -48,9 +47,9 @@ tested w at b r e test = test (take at w) e ∙ ap (is_front_fault (take at w)) 
 
 pub next_clear : (w : List Sym) (at : ℕ) → is_fault w at ≡ false → ((k : ℕ) → k < at → is_fault w k ≡ false) → (k : ℕ) → k < at + 1 → is_fault w k ≡ false
 next_clear w at here before k below = elim (cases_order k at) [
-    inl same ↦ ap (is_fault w) same ∙ here
+  | inl same ↦ ap (is_fault w) same ∙ here
   | inr apart ↦ elim apart [ inl less ↦ before k less | inr more ↦ absurd (omega arith) ]
-  ]
+]
 
 pub next_run : (w : List Sym) (at : ℕ) (d : Sym) (b : Bool) → at < length w → b ≡ ends_in_words (take at w) → goes_on b (get_or w at d).kind ≡ ends_in_words (take (at + 1) w)
 next_run w at d b within e = goes (take at w) (get_or w at d) b e ∙ ap ends_in_words (sym (take_more w at d within))

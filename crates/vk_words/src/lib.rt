@@ -4,3 +4,6 @@
 pub mod faults;
 
 pub use faults::first_word_fault;
+
+#[cfg(test)]
+mod tests;

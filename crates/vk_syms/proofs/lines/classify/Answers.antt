@@ -1,4 +1,4 @@
-use Rattle.std.proofs.Common.{◌≡◌, ◌<◌, length, get_or, refl, sym, ap, ◌∙◌, arith, rules}
+use Rattle.std.proofs.Common.{◌≡◌, ◌<◌, length, refl, sym, ap, ◌∙◌, arith, rules}
 use Rattle.std.proofs.lemmas.List.{length-map}
 use mir.Val.{bool_byte}
 use Rattle.vk_syms.specs.Syms.{rows}
@@ -17,9 +17,9 @@ loop-at-preserved c =
     let long : c.len-begun.result ≡ length c.loop-at.syms.lines.items = search rules in
     let count : c.len-begun.result ≡ length (rows c.loop-at.syms.lines.items) = long ∙ sym (length-map c.loop-at.syms.lines.items (λ v. v.items)) in
     rw (c.in_ok-add.ensures.outside, c.in_ok-add.ensures.lines)
-        (next c.args.tokens.now.names ts c.deref-token-items.result.now c.loop-at.at _ _ c.loop-at.syms.outside.items (rows c.loop-at.syms.lines.items) c.loop-at.ended
-            c.len-begun.result c.sym_kind.result c.from.result c.from-ended.result c.loop-at.invariant within all refl count
-            (c.from.ensures ∙ ap (λ b. bool_byte b) c.is_heading.ensures) c.sym_kind.ensures (c.from-ended.ensures ∙ ap (λ b. bool_byte b) c.is_line_end.ensures))
+    (next c.args.tokens.now.names ts c.deref-token-items.result.now c.loop-at.at _ _ c.loop-at.syms.outside.items (rows c.loop-at.syms.lines.items) c.loop-at.ended
+    c.len-begun.result c.sym_kind.result c.from.result c.from-ended.result c.loop-at.invariant within all refl count
+    (c.from.ensures ∙ ap (λ b. bool_byte b) c.is_heading.ensures) c.sym_kind.ensures (c.from-ended.ensures ∙ ap (λ b. bool_byte b) c.is_line_end.ensures))
 
 pub returns-clause-named : goal.returns-clause-named
 returns-clause-named c = syms_known c.args.tokens.now.names c.args.tokens.now.list.items c.loop-at.at c.loop-at.invariant (omega arith) c.requires.named
@@ -27,7 +27,7 @@ returns-clause-named c = syms_known c.args.tokens.now.names c.args.tokens.now.li
 pub returns-clause-named_clauses : goal.returns-clause-named_clauses
 returns-clause-named_clauses c = λ n some within.
     lines_known c.args.tokens.now.names c.args.tokens.now.list.items c.loop-at.at c.loop-at.invariant (omega arith) c.requires.named n some
-        (omega (arith, length-map c.loop-at.syms.lines.items (λ v. v.items)))
+    (omega (arith, length-map c.loop-at.syms.lines.items (λ v. v.items)))
 
 pub returns-clause-numbered : goal.returns-clause-numbered
 returns-clause-numbered c =

@@ -1,4 +1,4 @@
-use Rattle.std.proofs.Common.{◌≡◌, ◌<◌, length, arith, rules}
+use Rattle.std.proofs.Common.{◌≡◌, length, arith, rules}
 use Rattle.vk_syms.proofs.Split.{pushed_last}
 use Rattle.vk_syms.proofs.lines.push_last.Goals as goal
 

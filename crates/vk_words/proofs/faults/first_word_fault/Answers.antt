@@ -1,7 +1,7 @@
-use Rattle.std.proofs.Common.{◌≡◌, ◌<◌, ◌-◌, ℕ, Some, length, refl, sym, ap, ◌∙◌, arith, rules}
+use Rattle.std.proofs.Common.{◌-◌, Some, length, refl, sym, ap, ◌∙◌, arith}
 use Rattle.vk_words.specs.Faults.{ends_in_words, run_of, IsC7}
 use Rattle.vk_grammar.specs.Types.{words_of}
-use Rattle.vk_words.proofs.Runs.{tested, next_run, next_clear, a_place, no_place, one_place}
+use Rattle.vk_words.proofs.Runs.{tested, next_run, next_clear, a_place, one_place}
 use Rattle.vk_words.proofs.faults.first_word_fault.Goals as goal
 
 pub loop-at-init : goal.loop-at-init
@@ -11,9 +11,9 @@ loop-at-init c = (refl, λ k below. absurd (omega arith))
 pub loop-at-preserved : goal.loop-at-preserved
 loop-at-preserved c =
     let w = c.args.syms.now in
-    let here = tested w c.loop-at.at c.loop-at.in_words c.is_front_fault.result c.loop-at.invariant.0 c.is_front_fault.ensures in
-    ( c.goes_on-in_words.ensures ∙ next_run w c.loop-at.at _ c.loop-at.in_words c.loop-at-test.true c.loop-at.invariant.0
-    , next_clear w c.loop-at.at (sym here ∙ c.if-is_front_fault.false) c.loop-at.invariant.1
+    let here = tested w c.loop-at.at c.loop-at.in_words c.is_front_fault.result c.loop-at.invariant.0 c.is_front_fault.ensures in (
+      c.goes_on-in_words.ensures ∙ next_run w c.loop-at.at _ c.loop-at.in_words c.loop-at-test.true c.loop-at.invariant.0,
+      next_clear w c.loop-at.at (sym here ∙ c.if-is_front_fault.false) c.loop-at.invariant.1,
     )
 
 place_here : (c : goal.Then-is_front_fault) → IsC7 c.args.syms.now (length c.args.syms.now - c.loop-at.at)

@@ -1,0 +1,12 @@
+mod Cutting
+mod Conds
+mod Sums
+mod Lists
+mod Summing
+mod Telling
+mod Forms
+mod Even
+mod Colons
+mod Linears
+mod Known
+mod Told
