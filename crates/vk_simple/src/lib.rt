@@ -1,0 +1,7 @@
+//! Functions whose body is one `return` of an expression on integers: which units have one, their lane code, and its runs.
+#![tactic(auto)]
+
+pub mod compile;
+pub mod emitter;
+
+pub use compile::compile;
