@@ -7,6 +7,7 @@ use Rattle.vk_types.specs.declared.types.Op2.TheVariants.{Add, Sub, Mul, And, Or
 use Rattle.vk_types.specs.Numbers.{IsInRange, number_of}
 use Rattle.vk_types.specs.Operators.{op2_number}
 use Rattle.vk_kinds.specs.declared.heads.CType.{CType}
+use Rattle.vk_kinds.specs.declared.heads.CType.TheVariants.{Int}
 use Rattle.vk_ast.specs.declared.names.NameId.{NameId}
 use Rattle.vk_ast.specs.declared.items.ParamDecl.{ParamDecl}
 use Rattle.vk_ast.specs.Tree.{Tree}
@@ -36,7 +37,7 @@ IsFilled l p = IsInRange p.ty (number_in l p)
 
 -- the place has the value
 pub record Holds (l : Lane) (p : Place) (value : Value) : Type 0 where
-  pub value : value ≡ got (number_in l p)
+  pub has : value ≡ got (number_in l p)
   pub filled : IsFilled l p
 
 -- a lane whose first registers have the parameters' numbers
@@ -64,6 +65,12 @@ pub record Appends (old new : Emitter) (R : Lane → Lane → Type 0) : Type 0 w
   pub grown : new.regs.items ≡ old.regs.items ++ more
   pub valid : AllByRecursion (IsValidInstr new.regs.items 1) piece
   pub runs : (types : ℕ → Ty) → Agrees types new.regs.items → (l : Lane) → is_live 0 l ≡ true → Follows (length old.regs.items) R l (run types piece l)
+
+-- behind the old code came this instruction, and the place is a new register of the type
+pub record Pushes (old new : Emitter) (i : Instr) (t : Ty) (d : Place) : Type 0 where
+  pub instrs : new.instrs.items ≡ old.instrs.items ++ i ∷ []
+  pub regs : new.regs.items ≡ old.regs.items ++ Int t ∷ []
+  pub place : d ≡ record { register = length old.regs.items; ty = t }
 
 -- ---- relations
 

@@ -4,4 +4,3 @@
 pub mod compile;
 pub mod emitter;
 
-pub use compile::compile;
