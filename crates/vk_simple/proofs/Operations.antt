@@ -33,7 +33,7 @@ number_kept n l m p h kept = ap (number_of p.ty) (kept p.register h)
 filled_kept : (n : ℕ) (l m : Lane) (p : Place) → p.register < n → Kept n l m → IsFilled l p → IsFilled m p
 filled_kept n l m p h kept filled = subst (λ w. IsFilled (record l { reg = λ r. w }) p) (sym (kept p.register h)) filled
 
-holds_kept : (n : ℕ) (l m : Lane) (p : Place) (value : Value) → p.register < n → Kept n l m → Holds l p value → Holds m p value
+pub holds_kept : (n : ℕ) (l m : Lane) (p : Place) (value : Value) → p.register < n → Kept n l m → Holds l p value → Holds m p value
 holds_kept n l m p value h kept holds = record { has = holds.has ∙ ap got (sym (number_kept n l m p h kept)); filled = filled_kept n l m p h kept holds.filled }
 
 -- ---- two values

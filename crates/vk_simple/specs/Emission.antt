@@ -12,14 +12,15 @@ use Rattle.vk_ast.specs.declared.names.NameId.{NameId}
 use Rattle.vk_ast.specs.declared.items.ParamDecl.{ParamDecl}
 use Rattle.vk_ast.specs.Tree.{Tree}
 use Rattle.vk_code.specs.declared.instruction.Instr.{Instr}
-use Rattle.vk_code.specs.Code.{HasType, IsValidInstr}
+use Rattle.vk_code.specs.declared.code.Code.{Code}
+use Rattle.vk_code.specs.Code.{HasType, IsValidInstr, types_of}
 use Rattle.vk_code.specs.Lane.{Lane, is_live, run}
-use Rattle.vk_mean.specs.Values.{Value, got, value_of_result}
+use Rattle.vk_mean.specs.Values.{Value, got, with_value, converted, value_of_result}
 use Rattle.vk_mean.specs.Types.{type_of}
 use Rattle.vk_mean.specs.Expressions.{value_of}
 use Rattle.vk_simple.specs.declared.emitter.Emitter.{Emitter}
 use Rattle.vk_simple.specs.declared.emitter.Place.{Place}
-use Rattle.vk_simple.specs.Parameters.{place_of, types_in}
+use Rattle.vk_simple.specs.Parameters.{heads_of, place_of, types_in}
 
 -- ---- places
 
@@ -110,3 +111,15 @@ abbrev pub IsShift : Op2 → Type 0
 IsShift Shl = Unit {0}
 IsShift Shr = Unit {0}
 IsShift op = ⊥
+
+-- ---- whole functions
+
+-- the first registers are the parameters, which are integers
+abbrev pub AreRegisters : List ParamDecl → List CType → Type 0
+AreRegisters params regs = (i : ℕ) → i < length params → HasType regs i (types_of (heads_of params) i)
+
+-- in each live lane that has the arguments, the code leaves the expression's value in the place, converted to its type
+pub record Returns (code : Code) (params : List ParamDecl) (e : Tree) (d : Place) : Type 0 where
+  pub live : (env : NameId → ℤ) (l : Lane) → is_live 0 l ≡ true → HasArguments params env l → is_live 0 (run (types_of code.regs.items) code.instrs.items l) ≡ true
+  pub value : (env : NameId → ℤ) (l : Lane) → is_live 0 l ≡ true → HasArguments params env l →
+      Holds (run (types_of code.regs.items) code.instrs.items l) d (with_value (value_of (types_in params) env e) (converted d.ty))
