@@ -16,7 +16,7 @@ use Rattle.vk_types.specs.Operators.{op2_number}
 use Rattle.vk_code.specs.declared.instruction.Instr.{Instr}
 use Rattle.vk_code.specs.declared.instruction.Operation.{Operation}
 use Rattle.vk_code.specs.declared.instruction.Operation.TheVariants.{Const, Convert, Binary, Compare, Unary}
-use Rattle.vk_code.specs.Instruction.{operation_of}
+use Rattle.vk_code.specs.Instruction.{IsArithmetic, operation_of}
 use Rattle.vk_code.specs.Lane.{Lane, act_if_some, is_live, run, step, with_reg, with_result}
 use Rattle.vk_form.specs.declared.tree.Operator.{Operator}
 use Rattle.vk_form.specs.declared.tree.Operator.TheVariants.{Add, Sub, Mul}
@@ -170,10 +170,13 @@ right_of_built n op b built h = elim built [
   | inr rest ↦ elim rest [ inl e ↦ rw e (has_int n b h) | inr e ↦ rw e (has_int n b h) ]
 ]
 
+arithmetic_of_built : (op : Op2) → (op ≡ ops.Add) ⊎ ((op ≡ ops.Sub) ⊎ (op ≡ ops.Mul)) → IsArithmetic op
+arithmetic_of_built op built = elim built [ inl e ↦ rw e tt | inr rest ↦ elim rest [ inl e ↦ rw e tt | inr e ↦ rw e tt ] ]
+
 valid_operation : (n : ℕ) (o : Option Operation) → IsIntOperation n o → MatchOption o ⊥ (IsValidOperation (replicate n (Int I32)))
 valid_operation n None v = v
 valid_operation n (Some (Const t d value)) v = rw v.0 (has_int n d v.1, v.2)
-valid_operation n (Some (Binary op t d a b)) v = rw v.0.0 (has_int n d v.1, has_int n a v.2, right_of_built n op b v.0.1 v.3, refl)
+valid_operation n (Some (Binary op t d a b)) v = rw v.0.0 (has_int n d v.1, has_int n a v.2, right_of_built n op b v.0.1 v.3, refl, arithmetic_of_built op v.0.1)
 valid_operation n (Some (Convert d a)) v = absurd v
 valid_operation n (Some (Compare op t d a b)) v = absurd v
 valid_operation n (Some (Unary op t d a)) v = absurd v

@@ -14,7 +14,7 @@ use Rattle.vk_code.specs.declared.code.Code.{Code}
 use Rattle.vk_code.specs.declared.instruction.Instr.{Instr}
 use Rattle.vk_code.specs.declared.instruction.Operation.{Operation}
 use Rattle.vk_code.specs.declared.instruction.Operation.TheVariants.{Const, Convert, Binary, Compare, Unary}
-use Rattle.vk_code.specs.Instruction.{operation_of}
+use Rattle.vk_code.specs.Instruction.{IsArithmetic, IsComparison, operation_of}
 use Rattle.vk_code.specs.Lane.{Lane, run}
 
 -- register r has the integer type t
@@ -34,8 +34,8 @@ IsPromoted t = promoted t ≡ t
 abbrev pub IsValidOperation : List CType → Operation → Type 0
 IsValidOperation regs (Const t d value) = HasType regs d t × IsCanonical t value.0
 IsValidOperation regs (Convert d a) = ((t : Ty) × HasType regs d t) × ((u : Ty) × HasType regs a u)
-IsValidOperation regs (Binary op t d a b) = HasType regs d t × HasType regs a t × HasRightType regs op t b × IsPromoted t
-IsValidOperation regs (Compare op t d a b) = HasType regs d I32 × HasType regs a t × HasType regs b t × IsPromoted t
+IsValidOperation regs (Binary op t d a b) = HasType regs d t × HasType regs a t × HasRightType regs op t b × IsPromoted t × IsArithmetic op
+IsValidOperation regs (Compare op t d a b) = HasType regs d I32 × HasType regs a t × HasType regs b t × IsPromoted t × IsComparison op
 IsValidOperation regs (Unary op t d a) = HasType regs d t × HasType regs a t × IsPromoted t
 
 -- an instruction among these registers and masks

@@ -45,6 +45,9 @@ wrap_keeps U64 z h = rem_keeps (2 ^ 64) z h.0 h.1
 pub number_of-word : (t : Ty) (z : ℤ) → IsInRange t z → number_of t (word_of z) ≡ z
 number_of-word t z h = search rules
 
+pub word_of-number : (t : Ty) (w : ℕ) → IsCanonical t w → word_of (number_of t w) ≡ w
+word_of-number t w h = search rules
+
 pub canonical_word : (t : Ty) (z : ℤ) → IsInRange t z → IsCanonical t (word_of z)
 canonical_word t z h = search rules
 

@@ -2,3 +2,4 @@ pub mod Expressions
 pub mod Operations
 pub mod Pieces
 pub mod Steps
+pub mod Words

@@ -53,8 +53,8 @@ operation_more : (regs more : List CType) (o : Option Operation) → MatchOption
 operation_more regs more None h = h
 operation_more regs more (Some (Const t d value)) h = (has_type_more regs more d t h.0, h.1)
 operation_more regs more (Some (Convert d a)) h = ((h.0.0, has_type_more regs more d h.0.0 h.0.1), (h.1.0, has_type_more regs more a h.1.0 h.1.1))
-operation_more regs more (Some (Binary op t d a b)) h = (has_type_more regs more d t h.0, has_type_more regs more a t h.1, right_more regs more op t b h.2, h.3)
-operation_more regs more (Some (Compare op t d a b)) h = (has_type_more regs more d _ h.0, has_type_more regs more a t h.1, has_type_more regs more b t h.2, h.3)
+operation_more regs more (Some (Binary op t d a b)) h = (has_type_more regs more d t h.0, has_type_more regs more a t h.1, right_more regs more op t b h.2, h.3, h.4)
+operation_more regs more (Some (Compare op t d a b)) h = (has_type_more regs more d _ h.0, has_type_more regs more a t h.1, has_type_more regs more b t h.2, h.3, h.4)
 operation_more regs more (Some (Unary op t d a)) h = (has_type_more regs more d t h.0, has_type_more regs more a t h.1, h.2)
 
 instrs_more : (regs more : List CType) (is : List Instr) → AllByRecursion (IsValidInstr regs 1) is → AllByRecursion (IsValidInstr (regs ++ more) 1) is
@@ -84,7 +84,7 @@ reg_same l k w = ap (λ t. cond t w (l.reg k)) (eq-eqb k k refl)
 pub reg_other : (l : Lane) (k w r : ℕ) → r < k → (with_reg l k w).reg r ≡ l.reg r
 reg_other l k w r h = ap (λ t. cond t w (l.reg r)) (eqb_other r k (λ e. absurd (omega arith)))
 
-step_live : (types : ℕ → Ty) (i : Instr) (o : Operation) (l : Lane) → operation_of i ≡ Some o → i.m ≡ 0 → is_live 0 l ≡ true → step types i l ≡ act types o l
+pub step_live : (types : ℕ → Ty) (i : Instr) (o : Operation) (l : Lane) → operation_of i ≡ Some o → i.m ≡ 0 → is_live 0 l ≡ true → step types i l ≡ act types o l
 step_live types i o l is mask live =
     ap (λ m. cond (is_live m l) (act_if_some types (operation_of i) l) l) mask
     ∙ ap (λ t. cond t (act_if_some types (operation_of i) l) l) live

@@ -13,7 +13,7 @@ use Rattle.vk_kinds.specs.declared.heads.CType.{CType}
 use Rattle.vk_kinds.specs.declared.heads.CType.TheVariants.{Int}
 use Rattle.vk_code.specs.declared.instruction.Instr.{Instr}
 use Rattle.vk_code.specs.declared.instruction.Operation.TheVariants.{Const, Convert, Binary, Compare, Unary}
-use Rattle.vk_code.specs.Instruction.{IsComparison, operation_of}
+use Rattle.vk_code.specs.Instruction.{IsArithmetic, IsComparison, operation_of}
 use Rattle.vk_code.specs.Code.{HasRightType, HasType, IsPromoted}
 use Rattle.vk_code.specs.Lane.{Lane, with_reg, with_result}
 use Rattle.vk_mean.specs.Values.{Value, got, converted, value_of_result}
@@ -132,6 +132,38 @@ comparison_result Rem h t x y = absurd h
 comparison_result Shl h t x y = absurd h
 comparison_result Shr h t x y = absurd h
 
+pub plain_arithmetic : (op : Op2) → IsPlainOperator op → IsArithmetic op
+plain_arithmetic Add h = tt
+plain_arithmetic Sub h = tt
+plain_arithmetic Mul h = tt
+plain_arithmetic Div h = absurd h
+plain_arithmetic Rem h = absurd h
+plain_arithmetic And h = tt
+plain_arithmetic Or h = tt
+plain_arithmetic Xor h = tt
+plain_arithmetic Shl h = absurd h
+plain_arithmetic Shr h = absurd h
+plain_arithmetic Eq h = absurd h
+plain_arithmetic Ne h = absurd h
+plain_arithmetic Lt h = absurd h
+plain_arithmetic Le h = absurd h
+
+pub shift_arithmetic : (op : Op2) → IsShift op → IsArithmetic op
+shift_arithmetic Add h = absurd h
+shift_arithmetic Sub h = absurd h
+shift_arithmetic Mul h = absurd h
+shift_arithmetic Div h = absurd h
+shift_arithmetic Rem h = absurd h
+shift_arithmetic And h = absurd h
+shift_arithmetic Or h = absurd h
+shift_arithmetic Xor h = absurd h
+shift_arithmetic Shl h = tt
+shift_arithmetic Shr h = tt
+shift_arithmetic Eq h = absurd h
+shift_arithmetic Ne h = absurd h
+shift_arithmetic Lt h = absurd h
+shift_arithmetic Le h = absurd h
+
 pub plain_type : (op : Op2) (t : Ty) → IsPlainOperator op → result_type op t ≡ t
 plain_type Add t h = refl
 plain_type Sub t h = refl
@@ -220,10 +252,10 @@ holds_result l k op t u d x y z is typed place =
 
 pub operate : (e f : Emitter) (i : Instr) (op : Op2) (u : Ty) (a b d : Place) → Pushes e f i u d → i.m ≡ 0 → operation_of i ≡ Some (Binary op a.ty (length e.regs.items) a.register b.register) →
     HasResult op → result_type op a.ty ≡ u → u ≡ a.ty → HasRightType f.regs.items op a.ty b.register → IsPlace e.regs.items a → IsPlace e.regs.items b → IsPromoted a.ty →
-    Appends e f (AppliesTwo (operates op a.ty) a b d)
-operate e f i op u a b d p mask is total typed same right left_place right_place promoted =
+    IsArithmetic op → Appends e f (AppliesTwo (operates op a.ty) a b d)
+operate e f i op u a b d p mask is total typed same right left_place right_place promoted arithmetic =
     appends_one e f i (Binary op a.ty (length e.regs.items) a.register b.register) u _ p.instrs p.regs mask is
-    (subst (HasType f.regs.items (length e.regs.items)) same (new_type e f i u d p), old_type e f i u d a.register a.ty p left_place, right, promoted)
+    (subst (HasType f.regs.items (length e.regs.items)) same (new_type e f i u d p), old_type e f i u d a.register a.ty p left_place, right, promoted, arithmetic)
     (λ types agrees l.
     let from : types b.register ≡ b.ty = agrees b.register b.ty (old_type e f i u d b.register b.ty p right_place) in
     let result = total a.ty (number_in l a) (number_in l b) in
@@ -239,7 +271,7 @@ pub compare : (e f : Emitter) (i : Instr) (op : Op2) (a b d : Place) → Pushes 
 compare e f i op a b d p mask is comparison left_place right_place same promoted =
     appends_one e f i (Compare op a.ty (length e.regs.items) a.register b.register) I32 _ p.instrs p.regs mask is
     (new_type e f i I32 d p, old_type e f i I32 d a.register a.ty p left_place,
-    subst (HasType f.regs.items b.register) same (old_type e f i I32 d b.register b.ty p right_place), promoted)
+    subst (HasType f.regs.items b.register) same (old_type e f i I32 d b.register b.ty p right_place), promoted, comparison)
     (λ types agrees l.
     let result = comparison_result op comparison a.ty (number_in l a) (number_in l b) in
     (

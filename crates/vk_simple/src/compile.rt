@@ -118,7 +118,7 @@ fn is_named(param: &ParamDecl, id: NameId) -> bool
 }
 
 // The type of an integer.
-fn integer(ctype: CType) -> Ty
+pub(crate) fn integer(ctype: CType) -> Ty
     ensures { result ≡ integer_of (Some ctype) }
 {
     match ctype {

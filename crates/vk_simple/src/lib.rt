@@ -3,4 +3,5 @@
 
 pub mod compile;
 pub mod emitter;
+pub mod machine;
 

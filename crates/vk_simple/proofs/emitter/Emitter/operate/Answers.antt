@@ -1,7 +1,7 @@
 use Rattle.std.proofs.Common.{refl, subst}
 use Rattle.vk_code.specs.Code.{HasType}
 use Rattle.vk_simple.proofs.Pieces.{IfOk-map}
-use Rattle.vk_simple.proofs.Steps.{operate, old_type, plain_result, plain_right, plain_type}
+use Rattle.vk_simple.proofs.Steps.{operate, old_type, plain_arithmetic, plain_result, plain_right, plain_type}
 use Rattle.vk_simple.proofs.emitter.Emitter.operate.Goals as goal
 
 pub returns-clause-code : goal.returns-clause-code
@@ -11,5 +11,5 @@ returns-clause-code c =
     (plain_result c.args.op c.requires.plain) (plain_type c.args.op c.args.a.ty c.requires.plain) refl
     (plain_right c.push.new.self.regs.items c.args.op c.args.a.ty c.args.b.register c.requires.plain
     (subst (HasType c.push.new.self.regs.items c.args.b.register) c.requires.same (old_type c.args.self.now c.push.new.self c.binary-instr.result c.args.a.ty d c.args.b.register c.args.b.ty p c.requires.right)))
-    c.requires.left c.requires.right c.requires.promoted)
+    c.requires.left c.requires.right c.requires.promoted (plain_arithmetic c.args.op c.requires.plain))
     c.push.ensures.pushed
