@@ -34,7 +34,7 @@ place_below p [] i e = absurd (none-some _ e)
 place_below p (x ∷ ps) i e = (position-Some p (x ∷ ps) i x e).0
 
 -- a parameter's place is below their number
-place_within : (params : List ParamDecl) (id : NameId) (i : ℕ) → place_of params id ≡ Some i → i < length params
+pub place_within : (params : List ParamDecl) (id : NameId) (i : ℕ) → place_of params id ≡ Some i → i < length params
 place_within params id i is = place_below (λ p. is_name id p.name) params i is
 
 -- its type, as it is read there

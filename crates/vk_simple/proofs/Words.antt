@@ -95,7 +95,7 @@ run-drop types is n d before after h e =
     rw add-one (ap (run types (drop (suc n) is)) e ∙ sym (ap (λ (xs : List Instr). run types xs before) (drop-cons is n d h)))
 
 -- a lane that stopped stays so
-not_live : (b : Bool) (o : Option Stop) (s : Stop) → o ≡ Some s → (b && is_none o) ≡ false
+pub not_live : (b : Bool) (o : Option Stop) (s : Stop) → o ≡ Some s → (b && is_none o) ≡ false
 not_live true None s e = absurd (none-some s e)
 not_live true (Some x) s e = refl
 not_live false o s e = refl

@@ -4,4 +4,5 @@
 pub mod compile;
 pub mod emitter;
 pub mod machine;
+pub mod results;
 
