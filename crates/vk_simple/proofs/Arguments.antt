@@ -1,5 +1,5 @@
 -- The lane of a call's arguments.
-use Rattle.std.proofs.Common.{◌≡◌, ℕ, zero, suc, ◌+◌, ◌<◌, ◌≤◌, List, [], ◌∷◌, ◌++◌, length, get_or, map, refl, ap, arith, Some, None, sym, ◌∙◌, subst, ℤ, pos, rules, true, inl, inr, take, ap₂}
+use Rattle.std.proofs.Common.{◌≡◌, ℕ, zero, suc, ◌+◌, ◌<◌, List, [], ◌∷◌, ◌++◌, length, get_or, map, refl, ap, arith, Some, sym, ◌∙◌, subst, pos, rules, inl, inr, take, ap₂}
 use Rattle.std.specs.List.{AllByRecursion}
 use Rattle.std.proofs.lemmas.List.{get_or_past, length-map, map-append, take_more}
 use Rattle.std.proofs.lemmas.Bool.{cases_lt, false≢true}
@@ -9,16 +9,15 @@ use Rattle.vk_types.specs.declared.types.Word.{Word}
 use Rattle.vk_types.specs.declared.types.Stop.{Stop}
 use Rattle.vk_types.specs.Numbers.{IsCanonical, IsInRange, number_of}
 use Rattle.vk_kinds.specs.declared.heads.CType.{CType}
-use Rattle.vk_kinds.specs.declared.heads.CType.TheVariants.{Int}
 use Rattle.vk_ast.specs.declared.names.NameId.{NameId}
 use Rattle.vk_ast.specs.declared.items.ParamDecl.{ParamDecl}
 use Rattle.vk_ast.specs.Tree.{Tree}
 use Rattle.vk_code.specs.declared.code.Code.{Code}
-use Rattle.vk_code.specs.Code.{HasType, integer_of, types_of}
-use Rattle.vk_code.specs.Lane.{Lane, is_live}
+use Rattle.vk_code.specs.Code.{types_of}
+use Rattle.vk_code.specs.Lane.{Lane}
 use Rattle.vk_mean.specs.Values.{got}
 use Rattle.vk_simple.specs.declared.emitter.Place.{Place}
-use Rattle.vk_simple.specs.Emission.{AreRegisters, HasArguments, Holds, Returns, number_in}
+use Rattle.vk_simple.specs.Emission.{AreRegisters, HasArguments, Returns}
 use Rattle.vk_simple.specs.Machine.{AreCanonical, AreWords, lane_after, lane_of, numbers_of, word_in}
 use Rattle.vk_simple.specs.Parameters.{argument_at, heads_of, numbers_in, place_of, returned, type_at, types_in}
 use Rattle.vk_simple.proofs.Expressions.{place_within}

@@ -1,5 +1,5 @@
 -- The code of an expression from that of its operands.
-use Rattle.std.proofs.Common.{◌≡◌, ℕ, ◌+◌, ◌<◌, ◌≤◌, Bool, true, List, [], ◌∷◌, ◌++◌, length, IfSome, get_or, map, refl, ap, ap₂, arith, Some, sym, ◌∙◌, subst, ℤ, pos, position}
+use Rattle.std.proofs.Common.{◌≡◌, ℕ, ◌<◌, ◌≤◌, Bool, true, List, [], ◌∷◌, ◌++◌, length, IfSome, get_or, ap, ap₂, arith, Some, sym, ◌∙◌, subst, ℤ, pos, position}
 use Rattle.std.specs.List.{AllByRecursion}
 use Rattle.std.specs.Option.{option_map}
 use Rattle.std.proofs.lemmas.List.{length-append}
@@ -16,7 +16,7 @@ use Rattle.vk_ast.specs.declared.expressions.BinOp.{BinOp}
 use Rattle.vk_ast.specs.Tree.{Tree, int, name, unary, binary, cast}
 use Rattle.vk_code.specs.declared.code.Code.{Code}
 use Rattle.vk_code.specs.declared.instruction.Instr.{Instr}
-use Rattle.vk_code.specs.Code.{HasType, IsValid, IsValidInstr, integer_of, types_of}
+use Rattle.vk_code.specs.Code.{IsValid, IsValidInstr, integer_of, types_of}
 use Rattle.vk_code.specs.Lane.{Lane, is_live, run}
 use Rattle.vk_mean.specs.Values.{Value, got, with_value, converted}
 use Rattle.vk_mean.specs.Types.{type_of}
@@ -24,7 +24,7 @@ use Rattle.vk_mean.specs.Operators.{unary_value, binary_value}
 use Rattle.vk_mean.specs.Expressions.{value_of}
 use Rattle.vk_simple.specs.declared.emitter.Emitter.{Emitter}
 use Rattle.vk_simple.specs.declared.emitter.Place.{Place}
-use Rattle.vk_simple.specs.Emission.{Agrees, Appends, AppliesOne, AppliesTwo, AreRegisters, Evaluates, Follows, Gives, Returns, HasArguments, Holds, IsFilled, IsPlace, number_in}
+use Rattle.vk_simple.specs.Emission.{Agrees, Appends, AppliesOne, AppliesTwo, AreRegisters, Evaluates, Follows, Gives, Returns, HasArguments, Holds, IsPlace, number_in}
 use Rattle.vk_simple.specs.Parameters.{heads_of, is_name, place_of, types_in, type_at}
 use Rattle.vk_simple.proofs.Pieces.{Kept, appends_none, appends_then, appends_weaken, has_type_grown}
 use Rattle.vk_simple.proofs.Operations.{holds_kept, inside}

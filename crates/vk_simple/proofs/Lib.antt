@@ -1,5 +1,6 @@
 pub mod Arguments
 pub mod Expressions
+pub mod Forms
 pub mod Operations
 pub mod Pieces
 pub mod Steps

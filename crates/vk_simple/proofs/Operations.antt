@@ -1,6 +1,5 @@
 -- Operators on converted operands.
-use Rattle.std.proofs.Common.{◌≡◌, ℕ, ◌+◌, ◌<◌, ◌≤◌, length, refl, ap, ap₂, arith, sym, ◌∙◌, subst, ℤ, pos}
-use Rattle.std.proofs.lemmas.List.{length-append}
+use Rattle.std.proofs.Common.{◌≡◌, ℕ, ◌<◌, length, refl, ap, ap₂, sym, ◌∙◌, subst, ℤ, pos}
 use Rattle.std.proofs.lemmas.Option.{slice_get_within}
 use Rattle.vk_types.specs.declared.types.Ty.{Ty}
 use Rattle.vk_types.specs.declared.types.Op1.{Op1}
@@ -8,12 +7,10 @@ use Rattle.vk_types.specs.declared.types.Op2.{Op2}
 use Rattle.vk_types.specs.declared.types.Op2.TheVariants.{Eq}
 use Rattle.vk_types.specs.Operators.{op1_number}
 use Rattle.vk_mean.specs.Operators.{in_type, shifted}
-use Rattle.vk_mean.proofs.Numbers.{wrap_keeps}
 use Rattle.vk_types.specs.Numbers.{number_of, wrap_number}
-use Rattle.vk_kinds.specs.declared.heads.CType.{CType}
 use Rattle.vk_kinds.specs.declared.heads.CType.TheVariants.{Int}
 use Rattle.vk_code.specs.Lane.{Lane}
-use Rattle.vk_mean.specs.Values.{Value, got, with_value, converted}
+use Rattle.vk_mean.specs.Values.{Value, got, converted}
 use Rattle.vk_simple.specs.declared.emitter.Emitter.{Emitter}
 use Rattle.vk_simple.specs.declared.emitter.Place.{Place}
 use Rattle.vk_simple.specs.Emission.{Appends, AppliesOne, AppliesTwo, Gives, Holds, IsFilled, IsPlace, number_in, operates}

@@ -1,12 +1,11 @@
 -- What each instruction does to numbers in places.
-use Rattle.std.proofs.Common.{◌≡◌, ℕ, ◌+◌, ◌<◌, List, [], ◌∷◌, ◌++◌, length, refl, ap, arith, Some, Result, Ok, Err, sym, ◌∙◌, subst, ℤ, pos}
+use Rattle.std.proofs.Common.{◌≡◌, ℕ, List, [], ◌∷◌, length, refl, ap, Some, Ok, sym, ◌∙◌, subst, ℤ, pos}
 use Rattle.vk_types.specs.declared.types.Ty.{Ty}
 use Rattle.vk_types.specs.declared.types.Ty.TheVariants.{I32}
 use Rattle.vk_types.specs.declared.types.Op1.{Op1}
 use Rattle.vk_types.specs.declared.types.Op2.{Op2}
 use Rattle.vk_types.specs.declared.types.Op2.TheVariants.{Add, Sub, Mul, Div, Rem, And, Or, Xor, Shl, Shr, Eq, Ne, Lt, Le}
 use Rattle.vk_types.specs.declared.types.Word.{Word}
-use Rattle.vk_types.specs.declared.types.Stop.{Stop}
 use Rattle.vk_types.specs.Numbers.{IsCanonical, IsInRange, number_of, word_of, wrap_number}
 use Rattle.vk_types.specs.Operators.{op1_number, op2_number, result_type}
 use Rattle.vk_kinds.specs.declared.heads.CType.{CType}
@@ -16,11 +15,11 @@ use Rattle.vk_code.specs.declared.instruction.Operation.TheVariants.{Const, Conv
 use Rattle.vk_code.specs.Instruction.{IsArithmetic, IsComparison, operation_of}
 use Rattle.vk_code.specs.Code.{HasRightType, HasType, IsPromoted}
 use Rattle.vk_code.specs.Lane.{Lane, with_reg, with_result}
-use Rattle.vk_mean.specs.Values.{Value, got, converted, value_of_result}
+use Rattle.vk_mean.specs.Values.{got, converted, value_of_result}
 use Rattle.vk_mean.proofs.Numbers.{number_of-word, op1_in_range, op2_in_range, wrap_in_range, wrap_keeps}
 use Rattle.vk_simple.specs.declared.emitter.Emitter.{Emitter}
 use Rattle.vk_simple.specs.declared.emitter.Place.{Place}
-use Rattle.vk_simple.specs.Emission.{Agrees, Appends, AppliesOne, AppliesTwo, Gives, Holds, IsFilled, IsPlace, IsPlainOperator, IsShift, Pushes, number_in, operates}
+use Rattle.vk_simple.specs.Emission.{Appends, AppliesOne, AppliesTwo, Gives, Holds, IsPlace, IsPlainOperator, IsShift, Pushes, number_in, operates}
 use Rattle.vk_simple.proofs.Pieces.{appends_none, appends_one, has_type_grown, reg_same, type_last}
 
 -- the new place's type, and that of a place before
@@ -61,8 +60,7 @@ convert e f i t a d p mask is operand =
     ((t, new_type e f i t d p), (a.ty, old_type e f i t d a.register a.ty p operand))
     (λ types agrees l.
     let to : types (length e.regs.items) ≡ t = agrees (length e.regs.items) t (new_type e f i t d p) in
-    let from : types a.register ≡ a.ty = agrees a.register a.ty (old_type e f i t d a.register a.ty p operand) in
-    (
+    let from : types a.register ≡ a.ty = agrees a.register a.ty (old_type e f i t d a.register a.ty p operand) in (
       word_of (wrap_number t (number_in l a)),
       ap (λ (u : Ty). with_reg l (length e.regs.items) (word_of (wrap_number u (number_of (types a.register) (l.reg a.register))))) to
           ∙ ap (λ (u : Ty). with_reg l (length e.regs.items) (word_of (wrap_number t (number_of u (l.reg a.register))))) from,
@@ -258,8 +256,7 @@ operate e f i op u a b d p mask is total typed same right left_place right_place
     (subst (HasType f.regs.items (length e.regs.items)) same (new_type e f i u d p), old_type e f i u d a.register a.ty p left_place, right, promoted, arithmetic)
     (λ types agrees l.
     let from : types b.register ≡ b.ty = agrees b.register b.ty (old_type e f i u d b.register b.ty p right_place) in
-    let result = total a.ty (number_in l a) (number_in l b) in
-    (
+    let result = total a.ty (number_in l a) (number_in l b) in (
       word_of result.0,
       ap (λ (v : Ty). with_result l (length e.regs.items) (op2_number op a.ty (number_in l a) (number_of v (l.reg b.register)))) from
           ∙ ap (with_result l (length e.regs.items)) result.1,
@@ -269,12 +266,15 @@ operate e f i op u a b d p mask is total typed same right left_place right_place
 pub compare : (e f : Emitter) (i : Instr) (op : Op2) (a b d : Place) → Pushes e f i I32 d → i.m ≡ 0 → operation_of i ≡ Some (Compare op a.ty (length e.regs.items) a.register b.register) →
     IsComparison op → IsPlace e.regs.items a → IsPlace e.regs.items b → b.ty ≡ a.ty → IsPromoted a.ty → Appends e f (AppliesTwo (operates op a.ty) a b d)
 compare e f i op a b d p mask is comparison left_place right_place same promoted =
-    appends_one e f i (Compare op a.ty (length e.regs.items) a.register b.register) I32 _ p.instrs p.regs mask is
-    (new_type e f i I32 d p, old_type e f i I32 d a.register a.ty p left_place,
-    subst (HasType f.regs.items b.register) same (old_type e f i I32 d b.register b.ty p right_place), promoted, comparison)
+    appends_one e f i (Compare op a.ty (length e.regs.items) a.register b.register) I32 _ p.instrs p.regs mask is (
+      new_type e f i I32 d p,
+      old_type e f i I32 d a.register a.ty p left_place,
+      subst (HasType f.regs.items b.register) same (old_type e f i I32 d b.register b.ty p right_place),
+      promoted,
+      comparison,
+    )
     (λ types agrees l.
-    let result = comparison_result op comparison a.ty (number_in l a) (number_in l b) in
-    (
+    let result = comparison_result op comparison a.ty (number_in l a) (number_in l b) in (
       word_of result.0,
       ap (λ (v : Ty). with_result l (length e.regs.items) (op2_number op a.ty (number_in l a) (number_of v (l.reg b.register)))) (sym same)
           ∙ ap (with_result l (length e.regs.items)) result.1,

@@ -1,8 +1,8 @@
 -- Registers as words, seen as a lane.
-use Rattle.std.proofs.Common.{◌≡◌, ℕ, zero, suc, ◌+◌, ◌<◌, ◌≤◌, ◌^◌, List, [], ◌∷◌, ◌++◌, length, get_or, cond, eqb, refl, ap, arith, None, Some, Option, replicate, sym, ◌∙◌, rules, Ok, Err, Result, ℤ, subst, inl, inr, drop, add-one, drop-cons, true, false, Bool, ◌&&◌, is_none, ap₂, IfOk}
+use Rattle.std.proofs.Common.{◌≡◌, ℕ, zero, suc, ◌+◌, ◌<◌, List, [], ◌∷◌, ◌++◌, length, get_or, cond, eqb, refl, ap, arith, None, Some, Option, replicate, sym, ◌∙◌, Ok, Err, Result, ℤ, subst, inl, inr, drop, add-one, drop-cons, true, false, Bool, ◌&&◌, is_none, ap₂, IfOk}
 use Rattle.std.specs.List.{AllByRecursion}
 use Rattle.std.proofs.Math.ListN.{set}
-use Rattle.std.proofs.lemmas.List.{get_or-set_same, get_or-set_other, get_or_default}
+use Rattle.std.proofs.lemmas.List.{get_or-set_same, get_or-set_other}
 use Rattle.std.proofs.lemmas.Option.{none-some, slice_get_within}
 use Rattle.std.proofs.lemmas.Bool.{cases_eq}
 use Rattle.std.proofs.lemmas.Bool.Decides.{nat_tests}
@@ -12,16 +12,16 @@ use Rattle.vk_types.specs.declared.types.Ty.TheVariants.{I32}
 use Rattle.vk_types.specs.declared.types.Op2.{Op2}
 use Rattle.vk_types.specs.declared.types.Op2.TheVariants.{Add, Sub, Mul, Div, Rem, And, Or, Xor, Shl, Shr, Eq, Ne, Lt, Le}
 use Rattle.vk_types.specs.declared.types.Stop.{Stop}
-use Rattle.vk_types.specs.Numbers.{IsCanonical, number_of, word_of}
+use Rattle.vk_types.specs.Numbers.{IsCanonical, number_of}
 use Rattle.vk_types.specs.Operators.{HasNumber, op2_number, result_type}
 use Rattle.vk_kinds.specs.declared.heads.CType.{CType}
 use Rattle.vk_kinds.specs.declared.heads.CType.TheVariants.{Int}
 use Rattle.vk_code.specs.declared.instruction.Instr.{Instr}
 use Rattle.vk_code.specs.declared.instruction.Operation.{Operation}
 use Rattle.vk_code.specs.declared.instruction.Operation.TheVariants.{Const, Convert, Binary, Compare, Unary}
-use Rattle.vk_code.specs.Instruction.{IsArithmetic, IsComparison, operation_of}
+use Rattle.vk_code.specs.Instruction.{operation_of}
 use Rattle.vk_code.specs.Code.{HasRightType, HasType, IsValidInstr, IsValidOperation, integer_of, types_of}
-use Rattle.vk_code.specs.Lane.{Lane, act, act_if_some, is_live, run, step, with_reg, with_result}
+use Rattle.vk_code.specs.Lane.{Lane, act, act_if_some, run, step, with_reg, with_result}
 use Rattle.vk_mean.proofs.Numbers.{word_of-number}
 use Rattle.vk_simple.specs.Machine.{AreCanonical, HasSomeType, lane_of, target_of, word_in}
 

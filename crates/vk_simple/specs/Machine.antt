@@ -1,5 +1,5 @@
 -- Registers as a lane: one word for each.
-use Rattle.std.specs.Prelude.{◌≡◌, ℕ, ◌==◌, ◌<◌, List, [], ◌∷◌, length, slice_index_or, None, ℤ, Some}
+use Rattle.std.specs.Prelude.{◌≡◌, ℕ, ◌==◌, List, [], ◌∷◌, length, slice_index_or, None, ℤ, Some}
 use Rattle.vk_types.specs.declared.types.Ty.{Ty}
 use Rattle.vk_types.specs.declared.types.Word.{Word}
 use Rattle.vk_types.specs.Numbers.{IsCanonical, number_of}

@@ -6,6 +6,7 @@ ghost use Rattle.vk_code.specs.Code.{IsValid, integer_of};
 ghost use Rattle.vk_mean.specs.Types.{type_of};
 ghost use Rattle.vk_simple.specs.declared.emitter.Place.{Place};
 ghost use Rattle.vk_simple.specs.Emission.{Appends, AreRegisters, Evaluates, IsPlace, Returns};
+ghost use Rattle.vk_simple.specs.Form.{CanCompile};
 ghost use Rattle.vk_simple.specs.Parameters.{heads_of, is_name, is_simple, place_of, types_in};
 
 use crate::emitter::{Emitter, Place};
@@ -17,11 +18,13 @@ use vk_types::Ty;
 
 /// The lane code of a function that returns the expression, converted to `ty`: the parameters' registers first, then one of its
 /// own type for each step.
-pub fn compile(alloc: Global, params: &[ParamDecl], ty: Ty, value: &Expr) -> Result<Code, AllocError>
-    requires integers { AreRegisters params.now (heads_of params.now) }
-    requires few { length params.now ≤ 64 }
-    requires simple { IsTrue (is_simple params.now (expr_of value.now)) }
-    requires small { nodes_of (expr_of value.now) ≤ 2000 }
+pub fn compile(
+    alloc: Global,
+    params: &[ParamDecl],
+    ty: Ty,
+    value: &Expr,
+) -> Result<Code, AllocError>
+    requires compiles { CanCompile params.now (expr_of value.now) }
     ensures valid { IfOk result (λ code. IsValid code) }
     ensures one_mask { IfOk result (λ code. code.masks ≡ 1) }
     ensures params { IfOk result (λ code. code.params ≡ length params.now) }
@@ -108,7 +111,7 @@ fn place_in(params: &[ParamDecl], id: NameId) -> Place
 }
 
 // Whether the parameter has this name.
-fn is_named(param: &ParamDecl, id: NameId) -> bool
+pub(crate) fn is_named(param: &ParamDecl, id: NameId) -> bool
     ensures { result ≡ is_name id param.now.name }
 {
     match param.name {

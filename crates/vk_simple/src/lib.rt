@@ -3,6 +3,8 @@
 
 pub mod compile;
 pub mod emitter;
+pub mod form;
 pub mod machine;
 pub mod results;
-
+#[cfg(test)]
+mod tests;

@@ -7,6 +7,7 @@ ghost use Rattle.vk_ast.specs.Tree.{expr_of, nodes_of};
 ghost use Rattle.vk_mean.specs.Values.{got};
 ghost use Rattle.vk_simple.specs.Emission.{AreRegisters};
 ghost use Rattle.vk_simple.specs.Machine.{AreWords, numbers_of};
+ghost use Rattle.vk_simple.specs.Form.{CanCompile};
 ghost use Rattle.vk_simple.specs.Parameters.{heads_of, is_simple, returned};
 
 use crate::compile::compile;
@@ -24,10 +25,7 @@ pub fn results(
     value: &Expr,
     lanes: &[Vec<Word>],
 ) -> Result<Vec<Word>, AllocError>
-    requires integers { AreRegisters params.now (heads_of params.now) }
-    requires few { length params.now ≤ 64 }
-    requires simple { IsTrue (is_simple params.now (expr_of value.now)) }
-    requires small { nodes_of (expr_of value.now) ≤ 2000 }
+    requires compiles { CanCompile params.now (expr_of value.now) }
     requires arguments { AllByRecursion (λ args. AreWords (heads_of params.now) args.items) lanes.now }
     ensures values { IfOk result (λ words. map (λ w. got (number_of ty w.0)) words.items
         ≡ map (λ args. returned params.now ty (expr_of value.now) (numbers_of (heads_of params.now) args.items)) lanes.now) }

@@ -1,10 +1,8 @@
 -- The code as a whole.
-use Rattle.std.proofs.Common.{◌≡◌, ◌≤◌, length, ap, sym, ◌∙◌, subst, refl, arith, List}
+use Rattle.std.proofs.Common.{◌≤◌, length, ap, sym, subst, refl, arith}
 use Rattle.std.proofs.lemmas.List.{length-map}
-use Rattle.vk_kinds.specs.declared.heads.CType.{CType}
 use Rattle.vk_ast.specs.Tree.{expr_of}
 use Rattle.vk_simple.specs.Emission.{AreRegisters}
-use Rattle.vk_simple.specs.Parameters.{heads_of}
 use Rattle.vk_simple.proofs.Expressions.{registers_grown, returns_whole, valid_whole, whole}
 use Rattle.vk_simple.proofs.compile.compile.Goals as goal
 
@@ -17,7 +15,7 @@ returns-clause-valid c =
 
 pub returns-clause-registers : goal.returns-clause-registers
 returns-clause-registers c =
-    let first = registers_grown _ c.emit.new.emitter _ c.args.params.now c.in_ok-place.ensures.code (subst (AreRegisters c.args.params.now) (sym c.in_ok-heads.ensures) c.requires.integers) in
+    let first = registers_grown _ c.emit.new.emitter _ c.args.params.now c.in_ok-place.ensures.code (subst (AreRegisters c.args.params.now) (sym c.in_ok-heads.ensures) c.requires.compiles.integers) in
     registers_grown c.emit.new.emitter c.convert.new.self _ c.args.params.now c.in_ok-result.ensures.code first
 
 pub returns-clause-returns : goal.returns-clause-returns

@@ -1,14 +1,10 @@
 -- The place that is found is the one of the definition.
 use Rattle.std.proofs.lemmas.Iterator.{YieldsList-from_slice}
-use Rattle.std.proofs.Common.{◌≡◌, ap, sym, ◌∙◌, subst, Some, None, IsSome, rules}
+use Rattle.std.proofs.Common.{◌≡◌, sym, ◌∙◌, subst, IsSome, rules}
 use Rattle.std.proofs.lemmas.Bool.{false≢true}
 use Rattle.std.proofs.lemmas.Iterator.Search.{position_from_yields_List}
-use Rattle.std.proofs.lemmas.Option.{slice_get-map}
-use Rattle.vk_types.specs.declared.types.Ty.{Ty}
-use Rattle.vk_kinds.specs.declared.heads.CType.{CType}
 use Rattle.vk_ast.specs.declared.items.ParamDecl.{ParamDecl}
-use Rattle.vk_code.specs.Code.{integer_of}
-use Rattle.vk_simple.specs.Parameters.{heads_of, is_name, place_of, type_at}
+use Rattle.vk_simple.specs.Parameters.{is_name, place_of}
 use Rattle.vk_simple.proofs.Expressions.{type_of_place}
 use Rattle.vk_simple.proofs.compile.place_in.Goals as goal
 

@@ -1,5 +1,5 @@
 -- The register that is written, and what is written there.
-use Rattle.std.proofs.Common.{◌≡◌, ◌<◌, length, ap, sym, ◌∙◌, refl, arith, rules, Some, slice_set}
+use Rattle.std.proofs.Common.{◌≡◌, ◌<◌, length, sym, ◌∙◌, refl, arith, rules, Some}
 use Rattle.vk_code.specs.Code.{IsValidOperation, types_of}
 use Rattle.vk_code.specs.Instruction.{operation_of}
 use Rattle.vk_simple.specs.Machine.{lane_of, target_of}

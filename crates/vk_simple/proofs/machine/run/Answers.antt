@@ -1,11 +1,9 @@
 -- The first words, one more instruction, and a stop.
-use Rattle.std.proofs.Common.{◌≡◌, ◌+◌, ◌<◌, ap, sym, ◌∙◌, subst, rules, drop, length, Some, get_or}
+use Rattle.std.proofs.Common.{ap, sym, ◌∙◌, subst, rules}
 use Rattle.vk_types.specs.Numbers.{IsCanonical}
-use Rattle.vk_kinds.specs.declared.heads.CType.{CType}
-use Rattle.vk_code.specs.declared.instruction.Instr.{Instr}
-use Rattle.vk_code.specs.Code.{IsValidInstr, types_of}
-use Rattle.vk_code.specs.Lane.{Lane, run, step}
-use Rattle.vk_simple.specs.Machine.{AreCanonical, lane_after, lane_of}
+use Rattle.vk_code.specs.Code.{types_of}
+use Rattle.vk_code.specs.Lane.{Lane, run}
+use Rattle.vk_simple.specs.Machine.{lane_after, lane_of}
 use Rattle.vk_simple.proofs.Words.{run-drop, stopped_rest, valid_at}
 use Rattle.vk_simple.proofs.machine.run.Goals as goal
 

@@ -1,4 +1,4 @@
-use Rattle.std.proofs.Common.{sym, rules}
+use Rattle.std.proofs.Common.{rules}
 use Rattle.vk_simple.proofs.Pieces.{IfOk-map}
 use Rattle.vk_simple.proofs.Steps.{convert, unconverted}
 use Rattle.vk_simple.proofs.emitter.Emitter.convert.Goals as goal
