@@ -1,7 +1,6 @@
 // Units of the form, and their lanes.
 
 use crate::form::form_of;
-use crate::results::results;
 use std::alloc::Global;
 use std::test::Fail;
 use vk_ast::{
@@ -9,7 +8,7 @@ use vk_ast::{
     ParamDecl, Stmt, StmtKind, Unit,
 };
 use vk_kinds::CType;
-use vk_types::{Ty, Word};
+use vk_types::Ty;
 
 fn node(kind: ExprKind) -> Expr {
     Expr {
