@@ -15,8 +15,8 @@ use Rattle.vk_types.specs.Numbers.{number_of, word_of}
 use Rattle.vk_types.specs.Operators.{op2_number}
 use Rattle.vk_code.specs.declared.instruction.Instr.{Instr}
 use Rattle.vk_code.specs.declared.instruction.Operation.{Operation}
-use Rattle.vk_code.specs.declared.instruction.Operation.TheVariants.{Const, Binary}
-use Rattle.vk_code.specs.Instruction.{operation_of}
+use Rattle.vk_code.specs.declared.instruction.Operation.TheVariants.{Const, Convert, Binary, Compare, Unary}
+use Rattle.vk_code.specs.Instruction.{IsArithmetic, operation_of}
 use Rattle.vk_code.specs.Lane.{Lane, act_if_some, is_live, run, step, with_reg, with_result}
 use Rattle.vk_form.specs.declared.tree.Operator.{Operator}
 use Rattle.vk_form.specs.declared.tree.Operator.TheVariants.{Add, Sub, Mul}
@@ -34,6 +34,9 @@ int_operation_more : (m n : ℕ) (o : Option Operation) → m ≤ n → IsIntOpe
 int_operation_more m n None h v = v
 int_operation_more m n (Some (Const t d value)) h v = (v.0, omega arith, v.2)
 int_operation_more m n (Some (Binary op t d a b)) h v = (v.0, omega arith, omega arith, omega arith)
+int_operation_more m n (Some (Convert d a)) h v = v
+int_operation_more m n (Some (Compare op t d a b)) h v = v
+int_operation_more m n (Some (Unary op t d a)) h v = v
 
 int_instrs_more : (m n : ℕ) (is : List Instr) → m ≤ n → AllByRecursion (IsIntInstr m) is → AllByRecursion (IsIntInstr n) is
 int_instrs_more m n [] h v = v
@@ -167,10 +170,16 @@ right_of_built n op b built h = elim built [
   | inr rest ↦ elim rest [ inl e ↦ rw e (has_int n b h) | inr e ↦ rw e (has_int n b h) ]
 ]
 
+arithmetic_of_built : (op : Op2) → (op ≡ ops.Add) ⊎ ((op ≡ ops.Sub) ⊎ (op ≡ ops.Mul)) → IsArithmetic op
+arithmetic_of_built op built = elim built [ inl e ↦ rw e tt | inr rest ↦ elim rest [ inl e ↦ rw e tt | inr e ↦ rw e tt ] ]
+
 valid_operation : (n : ℕ) (o : Option Operation) → IsIntOperation n o → MatchOption o ⊥ (IsValidOperation (replicate n (Int I32)))
 valid_operation n None v = v
 valid_operation n (Some (Const t d value)) v = rw v.0 (has_int n d v.1, v.2)
-valid_operation n (Some (Binary op t d a b)) v = rw v.0.0 (has_int n d v.1, has_int n a v.2, right_of_built n op b v.0.1 v.3)
+valid_operation n (Some (Binary op t d a b)) v = rw v.0.0 (has_int n d v.1, has_int n a v.2, right_of_built n op b v.0.1 v.3, refl, arithmetic_of_built op v.0.1)
+valid_operation n (Some (Convert d a)) v = absurd v
+valid_operation n (Some (Compare op t d a b)) v = absurd v
+valid_operation n (Some (Unary op t d a)) v = absurd v
 
 pub valid_instrs : (n : ℕ) (is : List Instr) → AllByRecursion (IsIntInstr n) is → AllByRecursion (IsValidInstr (replicate n (Int I32)) 1) is
 valid_instrs n [] v = tt
@@ -180,6 +189,9 @@ built_operation : (n : ℕ) (o : Option Operation) → IsIntOperation n o → Is
 built_operation n None v = tt
 built_operation n (Some (Const t d value)) v = tt
 built_operation n (Some (Binary op t d a b)) v = v.0
+built_operation n (Some (Convert d a)) v = v
+built_operation n (Some (Compare op t d a b)) v = v
+built_operation n (Some (Unary op t d a)) v = v
 
 pub built_instrs : (n : ℕ) (is : List Instr) → AllByRecursion (IsIntInstr n) is → AreBuilt is
 built_instrs n [] v = tt

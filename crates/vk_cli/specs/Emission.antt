@@ -6,7 +6,7 @@ use Rattle.vk_types.specs.declared.types.Ty.TheVariants.{I32}
 use Rattle.vk_types.specs.Numbers.{IsCanonical, number_of}
 use Rattle.vk_code.specs.declared.instruction.Instr.{Instr}
 use Rattle.vk_code.specs.declared.instruction.Operation.{Operation}
-use Rattle.vk_code.specs.declared.instruction.Operation.TheVariants.{Const, Binary}
+use Rattle.vk_code.specs.declared.instruction.Operation.TheVariants.{Const, Convert, Binary, Compare, Unary}
 use Rattle.vk_code.specs.Instruction.{operation_of}
 use Rattle.vk_code.specs.Lane.{Lane, is_live, run}
 use Rattle.vk_form.specs.Form.{Tree}
@@ -18,6 +18,9 @@ abbrev pub IsIntOperation : ℕ → Option Operation → Type 0
 IsIntOperation n None = ⊥
 IsIntOperation n (Some (Const t d value)) = (t ≡ I32) × (d < n) × IsCanonical I32 value.0
 IsIntOperation n (Some (Binary op t d a b)) = IsBuilt op t × (d < n) × (a < n) × (b < n)
+IsIntOperation n (Some (Convert d a)) = ⊥
+IsIntOperation n (Some (Compare op t d a b)) = ⊥
+IsIntOperation n (Some (Unary op t d a)) = ⊥
 
 pub record IsIntInstr (n : ℕ) (i : Instr) : Type 0 where
   pub mask : i.m ≡ 0

@@ -11,7 +11,7 @@ use Rattle.vk_types.specs.Numbers.{word_of, IsCanonical}
 use Rattle.vk_kinds.specs.declared.heads.CType.{CType}
 use Rattle.vk_code.specs.declared.instruction.Instr.{Instr}
 use Rattle.vk_code.specs.declared.instruction.Operation.{Operation}
-use Rattle.vk_code.specs.declared.instruction.Operation.TheVariants.{Const, Binary}
+use Rattle.vk_code.specs.declared.instruction.Operation.TheVariants.{Const, Convert, Binary, Compare, Unary}
 use Rattle.vk_code.specs.Instruction.{operation_of}
 use Rattle.vk_code.specs.Code.{types_of}
 use Rattle.vk_code.specs.Lane.{Lane}
@@ -53,6 +53,9 @@ abbrev pub IsBuiltOperation : Option Operation → Type 0
 IsBuiltOperation None = ⊤
 IsBuiltOperation (Some (Const t d value)) = ⊤
 IsBuiltOperation (Some (Binary op t d a b)) = IsBuilt op t
+IsBuiltOperation (Some (Convert d a)) = ⊥
+IsBuiltOperation (Some (Compare op t d a b)) = ⊥
+IsBuiltOperation (Some (Unary op t d a)) = ⊥
 
 abbrev pub AreBuilt : List Instr → Type 0
 AreBuilt instrs = AllByRecursion (λ i. IsBuiltOperation (operation_of i)) instrs

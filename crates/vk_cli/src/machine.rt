@@ -82,6 +82,9 @@ fn operate(rows: &mut Vec<Row>, regs: &[CType], operation: Operation)
             let row = binary_row(op, ty, &rows[usize::from(a)], &rows[usize::from(b)]);
             rows[usize::from(d)] = row;
         }
+        Operation::Convert { .. } | Operation::Compare { .. } | Operation::Unary { .. } => {
+            unreachable!()
+        }
     }
 }
 

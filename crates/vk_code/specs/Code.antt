@@ -3,17 +3,18 @@ use Rattle.std.specs.Prelude.{◌≡◌, ℕ, ◌==◌, ◌<◌, ◌≤◌, List
 use Rattle.std.specs.List.{AllByRecursion}
 use Rattle.std.specs.Option.{MatchOption}
 use Rattle.vk_types.specs.declared.types.Ty.{Ty}
-use Rattle.vk_types.specs.declared.types.Ty.TheVariants.{I64}
+use Rattle.vk_types.specs.declared.types.Ty.TheVariants.{I32, I64}
 use Rattle.vk_types.specs.declared.types.Op2.{Op2}
 use Rattle.vk_types.specs.declared.types.Op2.TheVariants.{Shl, Shr}
+use Rattle.vk_types.specs.Conversions.{promoted}
 use Rattle.vk_types.specs.Numbers.{IsCanonical}
 use Rattle.vk_kinds.specs.declared.heads.CType.{CType}
 use Rattle.vk_kinds.specs.declared.heads.CType.TheVariants.{Void, Int, Ptr}
 use Rattle.vk_code.specs.declared.code.Code.{Code}
 use Rattle.vk_code.specs.declared.instruction.Instr.{Instr}
 use Rattle.vk_code.specs.declared.instruction.Operation.{Operation}
-use Rattle.vk_code.specs.declared.instruction.Operation.TheVariants.{Const, Binary}
-use Rattle.vk_code.specs.Instruction.{operation_of}
+use Rattle.vk_code.specs.declared.instruction.Operation.TheVariants.{Const, Convert, Binary, Compare, Unary}
+use Rattle.vk_code.specs.Instruction.{IsArithmetic, IsComparison, operation_of}
 use Rattle.vk_code.specs.Lane.{Lane, run}
 
 -- register r has the integer type t
@@ -26,9 +27,16 @@ HasRightType regs Shl t b = (u : Ty) × HasType regs b u
 HasRightType regs Shr t b = (u : Ty) × HasType regs b u
 HasRightType regs op t b = HasType regs b t
 
+-- the type is one that operands are promoted to
+abbrev pub IsPromoted : Ty → Type 0
+IsPromoted t = promoted t ≡ t
+
 abbrev pub IsValidOperation : List CType → Operation → Type 0
 IsValidOperation regs (Const t d value) = HasType regs d t × IsCanonical t value.0
-IsValidOperation regs (Binary op t d a b) = HasType regs d t × HasType regs a t × HasRightType regs op t b
+IsValidOperation regs (Convert d a) = ((t : Ty) × HasType regs d t) × ((u : Ty) × HasType regs a u)
+IsValidOperation regs (Binary op t d a b) = HasType regs d t × HasType regs a t × HasRightType regs op t b × IsPromoted t × IsArithmetic op
+IsValidOperation regs (Compare op t d a b) = HasType regs d I32 × HasType regs a t × HasType regs b t × IsPromoted t × IsComparison op
+IsValidOperation regs (Unary op t d a) = HasType regs d t × HasType regs a t × IsPromoted t
 
 -- an instruction among these registers and masks
 pub record IsValidInstr (regs : List CType) (masks : ℕ) (i : Instr) : Type 0 where

@@ -2,11 +2,11 @@
 use Rattle.std.specs.Prelude.{ℕ, ◌==◌, Bool, ◌&&◌, cond, ℤ, List, [], ◌∷◌, Option, Some, None, is_none, Result, Ok, Err}
 use Rattle.vk_types.specs.declared.types.Ty.{Ty}
 use Rattle.vk_types.specs.declared.types.Stop.{Stop}
-use Rattle.vk_types.specs.Numbers.{number_of, word_of}
-use Rattle.vk_types.specs.Operators.{op2_number}
+use Rattle.vk_types.specs.Numbers.{number_of, word_of, wrap_number}
+use Rattle.vk_types.specs.Operators.{op1_number, op2_number}
 use Rattle.vk_code.specs.declared.instruction.Instr.{Instr}
 use Rattle.vk_code.specs.declared.instruction.Operation.{Operation}
-use Rattle.vk_code.specs.declared.instruction.Operation.TheVariants.{Const, Binary}
+use Rattle.vk_code.specs.declared.instruction.Operation.TheVariants.{Const, Convert, Binary, Compare, Unary}
 use Rattle.vk_code.specs.Instruction.{operation_of}
 
 -- a lane: the pattern in each register, whether it is on in each mask, and the stop that ended it, if one did
@@ -31,7 +31,10 @@ with_result l d (Err stop) = record l { stop = Some stop }
 -- one operation in a live lane; types are those of the integer registers
 abbrev pub act : (ℕ → Ty) → Operation → Lane → Lane
 act types (Const t d value) l = with_reg l d value.0
+act types (Convert d a) l = with_reg l d (word_of (wrap_number (types d) (number_of (types a) (l.reg a))))
 act types (Binary op t d a b) l = with_result l d (op2_number op t (number_of t (l.reg a)) (number_of (types b) (l.reg b)))
+act types (Compare op t d a b) l = with_result l d (op2_number op t (number_of t (l.reg a)) (number_of t (l.reg b)))
+act types (Unary op t d a) l = with_reg l d (word_of (op1_number op t (number_of t (l.reg a))))
 
 -- one instruction: in a lane that is not live it does nothing
 abbrev pub act_if_some : (ℕ → Ty) → Option Operation → Lane → Lane

@@ -1,0 +1,7 @@
+pub mod Arguments
+pub mod Expressions
+pub mod Forms
+pub mod Operations
+pub mod Pieces
+pub mod Steps
+pub mod Words
