@@ -8,3 +8,4 @@ pub mod machine;
 pub mod results;
 #[cfg(test)]
 mod tests;
+pub mod variant;
