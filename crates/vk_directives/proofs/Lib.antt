@@ -8,5 +8,5 @@ mod Forms
 mod Even
 mod Colons
 mod Linears
-mod Known
+pub mod Known
 mod Told

@@ -1,0 +1,4 @@
+mod Copying
+mod Deep
+mod Facts
+mod Numbers

@@ -1,0 +1,59 @@
+-- What the tokens of a unit spell, and its first fault of the rules C5 to C7.
+use Rattle.std.specs.Prelude.{◌≡◌, ℕ, ◌-◌, ◌≤◌, ◌<◌, List, [], ◌∷◌, length, drop}
+use Rattle.vk_ast.specs.Units.{ItemTree}
+use Rattle.vk_tokens.specs.declared.tokens.Token.{Token}
+use Rattle.vk_tokens.specs.declared.rules.UnitRule.{UnitRule}
+use Rattle.vk_tokens.specs.declared.rules.UnitRule.TheVariants.{C5, C6, C7}
+use Rattle.vk_grammar.specs.declared.symbols.Sym.{Sym}
+use Rattle.vk_grammar.specs.Texts.{IsPlace, IsDeepPlace}
+use Rattle.vk_stmt_grammar.specs.Trees.{Clauses}
+use Rattle.vk_unit_grammar.specs.Items.{unit_levels}
+use Rattle.vk_unit_grammar.specs.Grammar.{AreItems, IsText, IsTextWithin}
+use Rattle.vk_syms.specs.Lines.{outside, clauses as clause_tokens}
+use Rattle.vk_directives.specs.Clauses.{AreClauses}
+use Rattle.vk_words.specs.Faults.{IsC7}
+
+-- the line of what is left; the end stands on the last line
+abbrev pub line_left : (last : ℕ) → List Sym → ℕ
+line_left last [] = last
+line_left last (t ∷ rest) = t.line
+
+module _ (names : List (List ℕ)) (ts : List Token) where
+  -- these are the clauses of each directive line, by its number
+  abbrev pub HasClauses : Clauses → Type 0
+  HasClauses clauses = (n : ℕ) → AreClauses names (clauses n) (clause_tokens names ts n)
+
+  -- the tokens are those of a unit with these items, whose expressions have at most this height
+  pub record Parses (items : List ItemTree) (height : ℕ) : Type 0 where
+    pub clauses : Clauses
+    pub are : HasClauses clauses
+    pub items_are : AreItems clauses items height (outside names ts)
+
+  -- C6 is kept: expressions are at most 64 deep, and statements stand inside at most 64 statements
+  pub record IsWithin (items : List ItemTree) (height : ℕ) : Type 0 where
+    pub expressions : height ≤ 64
+    pub statements : unit_levels items ≤ 65
+
+  -- C7 is kept
+  abbrev pub KeepsWords : Type 0
+  KeepsWords = (n : ℕ) → IsC7 (outside names ts) n → ⊥
+
+  -- A place of C5, of C6 or of C7, told as the number of tokens left from it on, it included. C5 and C6 are told only where no
+  -- C7 is at or before them, C7 only where no C5 is before it. So the fault told is the first by place, at one place the
+  -- one of the greatest number; but where a C6 is before it, it is another that may be told then.
+  abbrev pub IsFaultAt : UnitRule → ℕ → Type 0
+  IsFaultAt C5 n = ((clauses : Clauses) → HasClauses clauses → IsPlace (IsText clauses) (outside names ts) n) × ((m : ℕ) → IsC7 (outside names ts) m → m < n)
+  IsFaultAt C6 n = ((clauses : Clauses) → HasClauses clauses → IsDeepPlace (IsText clauses) (IsTextWithin clauses 64 65) (outside names ts) n)
+      × ((m : ℕ) → IsC7 (outside names ts) m → m < n)
+  IsFaultAt C7 n = IsC7 (outside names ts) n × ((clauses : Clauses) (m : ℕ) → HasClauses clauses → IsPlace (IsText clauses) (outside names ts) m → m ≤ n)
+  IsFaultAt rule n = ⊥
+
+  -- the line of a place
+  abbrev pub line_of_place : (last n : ℕ) → ℕ
+  line_of_place last n = line_left last (drop (length (outside names ts) - n) (outside names ts))
+
+  -- the fault with its line
+  pub record IsFault (last line : ℕ) (rule : UnitRule) : Type 0 where
+    pub left : ℕ
+    pub at : IsFaultAt rule left
+    pub line_is : line ≡ line_of_place last left

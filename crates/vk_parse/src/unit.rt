@@ -1,0 +1,137 @@
+// The tree of a unit.
+
+ghost use Rattle.std.specs.Prelude.{◌≡◌, ◌≤◌, ◌-◌, ℕ, List, Err, drop, length, IfOk, MatchResult};
+ghost use Rattle.std.specs.List.{All};
+ghost use Rattle.vk_ast.specs.Units.{ItemTree, items_of};
+ghost use Rattle.vk_tokens.specs.declared.tokens.Token.{Token};
+ghost use Rattle.vk_tokens.specs.declared.rules.UnitRule.{UnitRule as UnitRuleOf};
+ghost use Rattle.vk_tokens.specs.declared.rules.UnitFail.TheVariants.{Fault, Memory as MemoryFail};
+ghost use Rattle.vk_tokens.specs.Names.{IsNamed};
+ghost use Rattle.vk_syms.specs.Lines.{outside};
+ghost use Rattle.vk_parse.specs.Answers.{judged, in_words, first_of, told, IsAnswer, IsLeft};
+ghost use Rattle.vk_parse.specs.Parsing.{line_left, HasClauses, Parses, IsWithin, KeepsWords, IsFault};
+
+use crate::lines::Lines;
+use crate::table::copy_table;
+use std::alloc::Global;
+use vk_ast::{Item, Unit};
+use vk_expr::ReadFail;
+use vk_grammar::Sym;
+use vk_stmt::Directives;
+use vk_syms::classify;
+use vk_tokens::{Tokens, UnitFail, UnitRule};
+use vk_unit::read_unit;
+use vk_words::first_word_fault;
+
+// Why there are no items.
+enum Miss {
+    // The rule and its place, told as the number of tokens from it on.
+    At { rule: UnitRule, left: usize },
+    // An allocation failed.
+    Memory,
+}
+
+// Of a place of C5 or C6 and one of C7 the first; C7 where both are one.
+fn first_of(rule: UnitRule, left: usize, words: Option<usize>) -> Miss
+    ensures { result ≡ first_of rule left words }
+{
+    let Some(word) = words else {
+        return Miss::At { rule, left };
+    };
+    if word < left {
+        Miss::At { rule, left }
+    } else {
+        Miss::At {
+            rule: UnitRule::C7,
+            left: word,
+        }
+    }
+}
+
+fn in_words(items: Vec<Item>, words: Option<usize>) -> Result<Vec<Item>, Miss>
+    ensures { result ≡ in_words items words }
+{
+    match words {
+        None => Ok(items),
+        Some(left) => Err(Miss::At {
+            rule: UnitRule::C7,
+            left,
+        }),
+    }
+}
+
+fn judged(read: Result<Vec<Item>, ReadFail>, words: Option<usize>) -> Result<Vec<Item>, Miss>
+    ensures { result ≡ judged read words }
+{
+    match read {
+        Ok(items) => in_words(items, words),
+        Err(ReadFail::Syntax(left)) => Err(first_of(UnitRule::C5, left, words)),
+        Err(ReadFail::Deep(left)) => Err(first_of(UnitRule::C6, left, words)),
+        Err(ReadFail::Memory) => Err(Miss::Memory),
+    }
+}
+
+// The items of the tokens outside directive lines.
+fn items<D: Directives>(alloc: Global, directives: &D, syms: &[Sym]) -> Result<Vec<Item>, Miss>
+    ensures { (names : List (List ℕ)) (ts : List Token) → syms.now ≡ outside names ts → HasClauses names ts (D.clauses directives.now) → IsAnswer names ts result }
+{
+    judged(read_unit(alloc, directives, syms), first_word_fault(syms))
+}
+
+// The line of a place; the end stands on the last line.
+fn line_at(syms: &[Sym], last: u32, left: usize) -> u32
+    requires { left ≤ length syms.now }
+    ensures { result ≡ line_left last (drop (length syms.now - left) syms.now) }
+{
+    if left == 0 {
+        last
+    } else {
+        syms[syms.len() - left].line
+    }
+}
+
+fn told(syms: &[Sym], last: u32, miss: Miss) -> UnitFail
+    requires { IsLeft (length syms.now) miss }
+    ensures { result ≡ told last syms.now miss }
+{
+    match miss {
+        Miss::At { rule, left } => UnitFail::Fault {
+            line: line_at(syms, last, left),
+            rule,
+        },
+        Miss::Memory => UnitFail::Memory,
+    }
+}
+
+/// The tree of a unit (C17 6.9), by its tokens. It has a table of names of its own, which is the tokens' table.
+///
+/// # Errors
+///
+/// `Fault` with the first place of C5, C6 or C7 and its line: C5 where no unit has the token, C6 where each unit has an
+/// expression of more than 64 levels or a statement in more than 64, C7 at a keyword that is left out or words that are no
+/// type. At one place C7 is told; where C5 and C6 meet, either may be. `Memory` if an allocation fails.
+pub fn parse(alloc: Global, tokens: &Tokens) -> Result<Unit, UnitFail>
+    requires count { length tokens.now.list.items ≤ 1048576 }
+    requires few { length tokens.now.names ≤ 1048576 }
+    requires named { All (λ t. IsNamed tokens.now.names t.kind) tokens.now.list.items }
+    ensures found { IfOk result (λ u. (h : ℕ) × (Parses tokens.now.names tokens.now.list.items (items_of u) h
+        × (IsWithin tokens.now.names tokens.now.list.items (items_of u) h × KeepsWords tokens.now.names tokens.now.list.items))) }
+    ensures names { IfOk result (λ u. u.names ≡ tokens.now.names) }
+    ensures every { (items : List ItemTree) (h : ℕ) → Parses tokens.now.names tokens.now.list.items items h
+        → IsWithin tokens.now.names tokens.now.list.items items h → KeepsWords tokens.now.names tokens.now.list.items
+        → MatchResult result (λ u. items_of u ≡ items) (λ fail. fail ≡ MemoryFail) }
+    ensures fault { (line : ℕ) (rule : UnitRuleOf) → result ≡ Err (Fault line rule) → IsFault tokens.now.names tokens.now.list.items tokens.now.last line rule }
+{
+    let syms = classify(alloc, tokens)?;
+    let lines = Lines {
+        names: &tokens.names,
+        syms: &syms,
+    };
+    match items(alloc, &lines, &syms.outside) {
+        Ok(items) => Ok(Unit {
+            items,
+            names: copy_table(alloc, &tokens.names)?,
+        }),
+        Err(miss) => Err(told(&syms.outside, tokens.last, miss)),
+    }
+}

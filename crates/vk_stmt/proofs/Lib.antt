@@ -1,0 +1,4 @@
+pub mod Words
+pub mod Loops
+pub mod Blocks
+pub mod Exits

@@ -1,0 +1,5 @@
+pub mod Qualifiers
+pub mod Names
+pub mod Values
+pub mod Units
+pub mod Told
