@@ -16,7 +16,7 @@ pub fn typed()
         (e : Tree) → IsOfType (type_of types e) (value_of types env e) }
 {}
 
-/// An expression without `/` and `%` has a number.
+/// An expression without `/` and `%` has a number. Calls, which may stop, are not built yet and count as 0.
 pub fn total()
     ensures { (types : NameId → Ty) (env : NameId → ℤ) (e : Tree) → is_total e ≡ true → IsNumber (value_of types env e) }
 {}

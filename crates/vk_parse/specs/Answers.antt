@@ -1,4 +1,4 @@
--- What is told of the tokens outside directive lines.
+-- What the functions below `parse` tell of the tokens outside directive lines; its own contract is by `Parsing.antt` alone.
 use Rattle.std.specs.Prelude.{ℕ, ◌≤◌, ◌-◌, ◌==◌, ◌||◌, cond, nat_lt, List, [], map, drop, length, Option, Some, None, Result, Ok, Err}
 use Rattle.std.specs.Global.{Vec}
 use Rattle.vk_ast.specs.declared.items.Item.{Item}

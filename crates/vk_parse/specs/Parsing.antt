@@ -39,8 +39,8 @@ module _ (names : List (List ℕ)) (ts : List Token) where
   KeepsWords = (n : ℕ) → IsC7 (outside names ts) n → ⊥
 
   -- A place of C5, of C6 or of C7, told as the number of tokens left from it on, it included. C5 and C6 are told only where no
-  -- C7 is at or before them, C7 only where no C5 is before it. So the fault told is the first by place, at one place the
-  -- one of the greatest number; but where a C6 is before it, it is another that may be told then.
+  -- C7 is at or before them, C7 only where no C5 is before it; a C6 is before each C5. So the fault told is the first by place,
+  -- C7 where it is at the place of another; but where the first is a C6, a later C6, the C5 or the C7 may be told instead.
   abbrev pub IsFaultAt : UnitRule → ℕ → Type 0
   IsFaultAt C5 n = ((clauses : Clauses) → HasClauses clauses → IsPlace (IsText clauses) (outside names ts) n) × ((m : ℕ) → IsC7 (outside names ts) m → m < n)
   IsFaultAt C6 n = ((clauses : Clauses) → HasClauses clauses → IsDeepPlace (IsText clauses) (IsTextWithin clauses 64 65) (outside names ts) n)

@@ -107,9 +107,10 @@ fn told(syms: &[Sym], last: u32, miss: Miss) -> UnitFail
 ///
 /// # Errors
 ///
-/// `Fault` with the first place of C5, C6 or C7 and its line: C5 where no unit has the token, C6 where each unit has an
-/// expression of more than 64 levels or a statement in more than 64, C7 at a keyword that is left out or words that are no
-/// type. At one place C7 is told; where C5 and C6 meet, either may be. `Memory` if an allocation fails.
+/// `Fault` with the first fault by place and its line: C5 at the first token that no unit has there, the end counting as a
+/// last token; C6 at a token up to which the tokens begin some unit, each with an expression of more than 64 levels or a
+/// statement in more than 64; C7 at a keyword that is left out or words that are no type. C7 is told where it is at the place
+/// of another. Where the first is a C6, a later C6, the C5 or the C7 may be told instead. `Memory` if an allocation fails.
 pub fn parse(alloc: Global, tokens: &Tokens) -> Result<Unit, UnitFail>
     requires count { length tokens.now.list.items ≤ 1048576 }
     requires few { length tokens.now.names ≤ 1048576 }
