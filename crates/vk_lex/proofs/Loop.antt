@@ -13,11 +13,13 @@ use Rattle.vk_tokens.specs.declared.tokens.TokenKind.TheVariants.{Name, Int, Sig
 use Rattle.vk_tokens.specs.declared.rules.UnitRule.{UnitRule}
 use Rattle.vk_lex.specs.Characters.{Char, numbered, joined, characters, text_of, line_of, is_word_byte, is_word_start, run, begins, begins_two}
 use Rattle.vk_tokens.specs.Names.{IsNamed}
-use Rattle.vk_lex.specs.Tokens.{Kind, word, integer, sign, simdfn, simd, line_end, Tok, tok_of, kind_of, IsIdentifier, AreIdentifiers, TellsOne, Tells}
+use Rattle.vk_lex.specs.Tokens.{Kind, word, integer, sign, simdfn, simd, line_end, Tok, tok_of, kind_of, IsIdentifier, AreIdentifiers, TellsOne, Tells, with_name}
+use Rattle.vk_lex.specs.Tables.{names_of}
 use Rattle.vk_lex.specs.declared.pieces.Mode.{Mode}
 use Rattle.vk_lex.specs.declared.pieces.Mode.TheVariants.{Start, Inside, Directive, Idle}
 use Rattle.vk_lex.specs.Headings.{Heading, an_include, a_pragma, a_directive, IsDirective, a_simd, a_simdfn}
 use Rattle.vk_lex.specs.Lexing.{IsToken, a_name, a_number, a_sign, ended, IsPiece, a_blank, a_newline, a_comment, a_heading, a_token, an_idle_byte, IsFault, with_kind, Reads, at_end, a_piece, Fails, here, later, Lexes, Refuses}
+use Rattle.vk_lex.proofs.Firsts.{names_more}
 use Rattle.vk_lex.proofs.Lengths.{owed, piece_length, piece_owed}
 use Rattle.vk_lex.proofs.Steps.{one_piece, piece_or_fault, one_fault}
 
@@ -58,6 +60,7 @@ pub record Lexing (bytes : List ℕ) (names : List (List ℕ)) (list : List Toke
   pub fails : (l : ℕ) (r : UnitRule) → Fails (line_of bytes) mode rest l r → Refuses bytes l r
   pub named : All (λ t. IsNamed names t.kind) list
   pub identifiers : AreIdentifiers names
+  pub order : names ≡ names_of (map (tok_of names) list)
   pub count : owed mode + length list + length rest ≤ length (text_of bytes)
   pub few : length names ≤ length list
 
@@ -67,6 +70,7 @@ lexing_start bytes text e = record {
   fails = λ l r f. subst (λ (t : List ℕ). Fails (line_of bytes) Start t l r) e f;
   named = λ k d below. absurd (omega arith);
   identifiers = λ k text f. absurd (none-some text f);
+  order = refl;
   count = omega (arith, ap (λ (t : List ℕ). length t) e);
   few = omega arith;
 }
@@ -187,6 +191,13 @@ module _ {line : ℕ} {k : Kind} {list new : List Token} {names now : List (List
   told_identifiers good all j text at =
       elim (one.grows.only j text at) [ inl was ↦ all j text was | inr is ↦ subst (λ (x : Kind). IsGood (Some x)) is good ]
 
+  told_order : All (λ t. IsNamed names t.kind) list → names ≡ names_of (map (tok_of names) list) → now ≡ names_of (map (tok_of now) new)
+  told_order all order =
+      one.grows.exact
+      ∙ ap (λ (ns : List (List ℕ)). with_name ns k) order
+      ∙ sym (names_more (map (tok_of names) list) line k)
+      ∙ ap names_of (sym (told_map all []) ∙ append-nil (map (tok_of now) new))
+
   told_count : length new ≡ length list + 1
   told_count = ap (λ (l : List Token). length l) one.list ∙ length-append list (one.token ∷ [])
 
@@ -201,6 +212,7 @@ module _ (bytes : List ℕ) (names : List (List ℕ)) (list : List Token) (m : M
           fails = λ l x r. old.fails l x (later p r);
           named = old.named;
           identifiers = old.identifiers;
+          order = old.order;
           count = let shorter = piece_owed p in omega (arith, old.count);
           few = old.few;
         }))
@@ -211,6 +223,7 @@ module _ (bytes : List ℕ) (names : List (List ℕ)) (list : List Token) (m : M
       fails = λ l x r. old.fails l x (later p r);
       named = told_named one old.named;
       identifiers = told_identifiers one (piece_good p) old.identifiers;
+      order = told_order one old.named old.order;
       count = let shorter = piece_owed p in omega (arith, old.count, told_count one);
       few = omega (arith, one.grows.most, old.few, told_count one);
     }
@@ -247,6 +260,7 @@ pub record Lexed (bytes : List ℕ) (names : List (List ℕ)) (list : List Token
   pub lexes : Lexes bytes (map (tok_of names) list)
   pub named : All (λ t. IsNamed names t.kind) list
   pub identifiers : AreIdentifiers names
+  pub order : names ≡ names_of (map (tok_of names) list)
   pub count : length list ≤ length bytes
   pub few : length names ≤ length list
 
@@ -259,6 +273,7 @@ module _ (bytes : List ℕ) (names : List (List ℕ)) (list : List Token) (m : M
             (old.goes [] (subst (λ (ts : List Tok). Reads (line_of bytes) m [] ts) (ap (λ (o : Option Kind). with_kind (line_of bytes) o 0 []) e) at_end));
         named = old.named;
         identifiers = old.identifiers;
+        order = old.order;
         count = omega (arith, old.count, text_length bytes);
         few = old.few;
       }))
@@ -269,6 +284,7 @@ module _ (bytes : List ℕ) (names : List (List ℕ)) (list : List Token) (m : M
         (old.goes _ (subst (λ (ts : List Tok). Reads (line_of bytes) m [] ts) (ap (λ (o : Option Kind). with_kind (line_of bytes) o 0 []) e) at_end));
     named = told_named one old.named;
     identifiers = told_identifiers one (subst (λ (o : Option Kind). IsGood o) e (ended_good m)) old.identifiers;
+    order = told_order one old.named old.order;
     count = omega (arith, old.count, text_length bytes, told_count one, ended_owes m k e);
     few = omega (arith, one.grows.most, old.few, told_count one);
   }

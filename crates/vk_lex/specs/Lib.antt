@@ -5,4 +5,5 @@ pub mod Headings
 pub mod Literals
 pub mod Lexing
 pub mod Signs
+pub mod Tables
 pub mod Tokens

@@ -1,6 +1,7 @@
 -- Tokens by their texts, and the state between two of them.
-use Rattle.std.specs.Prelude.{◌≡◌, ℕ, ◌+◌, ◌≤◌, true, List, [], ◌∷◌, ◌++◌, ◌⊎◌, length, slice_get, slice_index, Option, Some, None}
-use Rattle.std.specs.List.{list_all}
+use Rattle.std.specs.Prelude.{◌≡◌, ℕ, ◌+◌, ◌≤◌, true, List, [], ◌∷◌, ◌++◌, ◌⊎◌, if◌then◌else◌, length, slice_get, slice_index, nat_eq, Option, Some, None}
+use Rattle.std.specs.Cmp.Lexicographic.{pointwise}
+use Rattle.std.specs.List.{list_all, list_any}
 use Rattle.vk_lex.specs.Characters.{is_word_byte, is_word_start}
 use Rattle.vk_tokens.specs.Names.{IsNamed}
 use Rattle.std.specs.Option.{unwrap_or}
@@ -54,8 +55,22 @@ pub record IsIdentifier (text : List ℕ) : Type 0 where
 abbrev pub AreIdentifiers : List (List ℕ) → Type 0
 AreIdentifiers names = (k : ℕ) (text : List ℕ) → slice_get names k ≡ Some text → IsIdentifier text
 
+-- a table with this text, which goes last where it is new
+abbrev pub with_text : List (List ℕ) → List ℕ → List (List ℕ)
+with_text names text = if list_any (pointwise nat_eq text) names then names else names ++ text ∷ []
+
+-- a table with the name of a token
+abbrev pub with_name : List (List ℕ) → Kind → List (List ℕ)
+with_name names (word text) = with_text names text
+with_name names (integer t n) = names
+with_name names (sign m) = names
+with_name names simdfn = names
+with_name names simd = names
+with_name names line_end = names
+
 -- a table that has kept its names, and has at most that of this token more
 pub record Grows (old new : List (List ℕ)) (kind : Kind) : Type 0 where
+  pub exact : new ≡ with_name old kind
   pub keeps : (k : ℕ) (text : List ℕ) → slice_get old k ≡ Some text → slice_get new k ≡ Some text
   pub only : (k : ℕ) (text : List ℕ) → slice_get new k ≡ Some text → (slice_get old k ≡ Some text) ⊎ (kind ≡ word text)
   pub most : length new ≤ length old + 1

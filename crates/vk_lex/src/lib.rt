@@ -1,7 +1,8 @@
 //! The tokens of a unit of C.
 //!
 //! What tokens a unit has is defined in `specs/`, piece by piece: `Characters` (joined lines), `Comments`, `Headings` (lines
-//! that begin with `#`), `Literals` (numbers), `Signs` (punctuators), and `Lexing`, which puts them together.
+//! that begin with `#`), `Literals` (numbers), `Signs` (punctuators), and `Lexing`, which puts them together. `Tables` says what
+//! the table of their names is.
 #![tactic(auto)]
 
 pub mod characters;

@@ -9,6 +9,7 @@ ghost use Rattle.vk_lex.specs.Tokens.{Tok, found_kind, kind_of, tok_of, AreIdent
 ghost use Rattle.std.specs.Option.{option_map};
 ghost use Rattle.vk_tokens.specs.declared.rules.UnitFail.TheVariants.{Memory as MemoryFail};
 ghost use Rattle.vk_lex.specs.Lexing.{Lexes, Refuses};
+ghost use Rattle.vk_lex.specs.Tables.{AreTokens};
 ghost use Rattle.vk_lex.specs.Answers.{IsTokensOrMemory, IsFaultOrMemory, IsRefusedOrMemory};
 ghost use Rattle.vk_tokens.specs.declared.rules.UnitRule.{UnitRule as UnitRuleOf};
 
@@ -81,6 +82,8 @@ pub fn lex(alloc: Global, bytes: &[u8]) -> Result<Tokens, UnitFail>
     // The tokens are those of the bytes, and no others are.
     ensures found { IfOk result (λ ts. Lexes bytes.now (map (tok_of ts.names) ts.list.items)) }
     ensures every { (all : List Tok) → Lexes bytes.now all → IsTokensOrMemory result all }
+    // They and the table are the bytes' own: each name once, in the order in which they appear first.
+    ensures tokens { IfOk result (λ ts. AreTokens bytes.now ts.names ts.list.items) }
     // The fault is the first of the bytes.
     ensures fault { IfErr result (λ fail. IsFaultOrMemory fail (Refuses bytes.now)) }
     ensures every_fault { (line : ℕ) (rule : UnitRuleOf) → Refuses bytes.now line rule → IsRefusedOrMemory result line rule }

@@ -58,6 +58,11 @@ whole c =
 pub returns-clause-found : goal.returns-clause-found
 returns-clause-found c = (whole c).lexes
 
+pub returns-clause-tokens : goal.returns-clause-tokens
+returns-clause-tokens c =
+    let all = whole c in
+    record { lexes = all.lexes; named = all.named; distinct = c.len-count.ensures.distinct; order = all.order }
+
 pub returns-clause-every : goal.returns-clause-every
 returns-clause-every c = λ all reads. lexes_only c.args.bytes.now _ all (whole c).lexes reads
 
