@@ -1,12 +1,12 @@
 -- Lists of statements in blocks, as the grammar and the trees see them.
-use Rattle.std.proofs.Common.{◌≡◌, ℕ, ◌+◌, ◌<◌, ◌≤◌, true, false, List, [], ◌∷◌, ◌++◌, length, map, Result, Ok, Err, refl, sym, ap, ◌∙◌}
+use Rattle.std.proofs.Common.{◌≡◌, ℕ, ◌+◌, ◌<◌, ◌≤◌, true, false, List, [], ◌∷◌, ◌++◌, length, map, Result, Ok, refl, sym, ap, ◌∙◌}
 use Rattle.std.proofs.lemmas.List.{append-nil, append_assoc, map-append}
 use Rattle.vk_ast.specs.declared.statements.Stmt.{Stmt}
 use Rattle.vk_ast.specs.Statements.{StmtTree, more_stmts, stmt_of, list_stmts}
 use Rattle.vk_tokens.specs.declared.tokens.Mark.TheVariants as mark
 use Rattle.vk_grammar.specs.declared.symbols.Sym.{Sym}
-use Rattle.vk_grammar.specs.Symbols.{head, is_sign}
-use Rattle.vk_grammar.specs.Parser.{Fault, Syntax, Deep, Parser, pure, then_do, many}
+use Rattle.vk_grammar.specs.Symbols.{head}
+use Rattle.vk_grammar.specs.Parser.{Fault, pure, then_do, many}
 use Rattle.vk_stmt_grammar.specs.Trees.{Clauses, stmts_in, joined}
 use Rattle.vk_stmt_grammar.specs.Reading.{entry, is_not}
 use Rattle.vk_expr.specs.declared.fail.ReadFail.{ReadFail}

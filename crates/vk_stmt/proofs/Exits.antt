@@ -5,7 +5,7 @@ use Rattle.std.proofs.Common.{◌≡◌, List, Result, Ok, Err, sym, ap, subst}
 use Rattle.vk_ast.specs.declared.statements.Stmt.{Stmt}
 use Rattle.vk_ast.specs.Statements.{StmtTree}
 use Rattle.vk_grammar.specs.declared.symbols.Sym.{Sym}
-use Rattle.vk_grammar.specs.Parser.{Fault, Syntax, Deep, Parser, then_do}
+use Rattle.vk_grammar.specs.Parser.{Fault, Parser, then_do}
 use Rattle.vk_expr.specs.declared.fail.ReadFail.{ReadFail}
 use Rattle.vk_expr.specs.declared.fail.ReadFail.TheVariants as fails
 use Rattle.vk_expr.specs.Answers.{Fails}

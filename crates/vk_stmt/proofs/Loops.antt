@@ -4,7 +4,7 @@ use Rattle.std.proofs.lemmas.List.{append-nil, append_assoc}
 use Rattle.vk_grammar.specs.declared.symbols.Sym.{Sym}
 use Rattle.vk_grammar.specs.declared.symbols.SymKind.{SymKind}
 use Rattle.vk_grammar.specs.Symbols.{head}
-use Rattle.vk_grammar.specs.Parser.{Fault, Syntax, Deep, Parser, pure, then_do, many, ◌>>=◌}
+use Rattle.vk_grammar.specs.Parser.{Fault, Syntax, Deep, Parser, pure, then_do, many}
 use Rattle.vk_expr.specs.declared.fail.ReadFail.{ReadFail}
 use Rattle.vk_expr.specs.declared.fail.ReadFail.TheVariants as fails
 use Rattle.vk_expr.specs.Answers.{Fails}

@@ -1,5 +1,5 @@
 -- `const` among tokens, as the code looks for it.
-use Rattle.std.proofs.Common.{◌≡◌, ℕ, Bool, ◌||◌, List, [], ◌∷◌, Some, refl, ap}
+use Rattle.std.proofs.Common.{◌≡◌, ◌||◌, List, [], ◌∷◌, Some, refl, ap}
 use Rattle.std.specs.List.{list_any}
 use Rattle.vk_grammar.specs.declared.symbols.Sym.{Sym}
 use Rattle.vk_grammar.specs.declared.symbols.Keyword.TheVariants as keyword

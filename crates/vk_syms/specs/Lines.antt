@@ -46,7 +46,7 @@ number p = begun (p.before ++ p.token ∷ [])
 abbrev pub in_line : Placed → Bool
 in_line p = nat_lt (ended p.before) (begun p.before)
 
--- What a token is to the grammar; a heading stands for its line.
+-- What a token is to the grammar; a heading stands for its line. The case of a line's end is a filler: `outside` and `clauses` drop it.
 abbrev pub sym_kind : List (List ℕ) → ℕ → TokenKind → SymKind
 sym_kind names n (token.Name id) = name_kind (unwrap_or (slice_get names id.0) []) id
 sym_kind names n (token.Int t v) = kind.Int t v

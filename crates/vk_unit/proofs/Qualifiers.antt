@@ -1,7 +1,7 @@
 -- Qualifiers of pointers, as the code counts them.
 use Rattle.std.proofs.Common.{◌≡◌, ℕ, zero, suc, ◌+◌, ◌<◌, Bool, true, false, cond, List, [], ◌∷◌, length, take, drop, Some, Result, Ok, refl, ap, ◌∙◌, arith}
 use Rattle.vk_grammar.specs.declared.symbols.Sym.{Sym}
-use Rattle.vk_grammar.specs.Parser.{Parser, many, Fault, then_do, pick, pure, ◌>>=◌}
+use Rattle.vk_grammar.specs.Parser.{many, Fault, then_do, pick, pure, ◌>>=◌}
 use Rattle.vk_grammar.specs.Parser.{take as take_one}
 use Rattle.vk_unit_grammar.specs.Items.{is_qualifier}
 use Rattle.vk_unit.specs.Answers.{qualifier_count}

@@ -4,7 +4,6 @@ use Rattle.std.proofs.Common.{◌≡◌, ℕ, suc, ◌≤◌, ◌<◌, List, [],
 use Rattle.vk_ast.specs.declared.items.Item.{Item}
 use Rattle.vk_ast.specs.Units.{ItemTree, item_of}
 use Rattle.vk_grammar.specs.declared.symbols.Sym.{Sym}
-use Rattle.vk_grammar.specs.Parser.{Fault, Syntax, Deep}
 use Rattle.vk_grammar.specs.Texts.{IsPlace, IsDeepPlace}
 use Rattle.vk_stmt_grammar.specs.Trees.{Clauses}
 use Rattle.vk_expr.specs.declared.fail.ReadFail.{ReadFail}

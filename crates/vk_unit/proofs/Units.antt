@@ -1,17 +1,16 @@
 -- Items of a unit, read one after the other as a loop does.
-use Rattle.std.proofs.Common.{◌≡◌, ℕ, zero, suc, ◌+◌, ◌<◌, ◌≤◌, List, [], ◌∷◌, ◌++◌, length, map, Result, Ok, Err, refl, sym, ap, ◌∙◌, arith}
+use Rattle.std.proofs.Common.{◌≡◌, ℕ, zero, suc, ◌+◌, ◌<◌, ◌≤◌, List, [], ◌∷◌, ◌++◌, length, Result, Ok, Err, refl, sym, ap, ◌∙◌, arith}
 use Rattle.std.proofs.lemmas.List.{append-nil}
 use Rattle.vk_ast.specs.Directives.{DirectiveTree}
 use Rattle.vk_ast.specs.Units.{ItemTree}
 use Rattle.vk_grammar.specs.declared.symbols.Sym.{Sym}
-use Rattle.vk_grammar.specs.Symbols.{head}
 use Rattle.vk_grammar.specs.Parser.{Fault, Syntax, Deep, Parser, pure, then_do, look, pick, at_end, many, ◌>>=◌}
 use Rattle.vk_stmt_grammar.specs.Trees.{Clauses}
 use Rattle.vk_expr.specs.declared.fail.ReadFail.{ReadFail}
 use Rattle.vk_expr.specs.declared.fail.ReadFail.TheVariants as fails
 use Rattle.vk_expr.specs.Answers.{Fails}
-use Rattle.vk_unit_grammar.specs.Items.{is_end, is_line, line_at, lost_lines}
-use Rattle.vk_unit_grammar.specs.Reading.{line, lines, item, items, items_step, whole_unit}
+use Rattle.vk_unit_grammar.specs.Items.{is_end, line_at, lost_lines}
+use Rattle.vk_unit_grammar.specs.Reading.{lines, item, items, items_step}
 use Rattle.vk_stmt.proofs.Loops.{behind, behind_none, behind_all}
 use Rattle.vk_unit.specs.Answers.{next_item}
 

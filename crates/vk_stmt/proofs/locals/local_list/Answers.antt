@@ -1,10 +1,10 @@
-use Rattle.std.proofs.Common.{◌≡◌, ◌+◌, ◌<◌, true, false, [], ◌∷◌, length, map, Ok, sym, ap, ◌∙◌, arith, rules}
+use Rattle.std.proofs.Common.{◌≡◌, true, false, [], ◌∷◌, map, arith, rules}
 use Rattle.std.proofs.lemmas.List.{map-append}
 use Rattle.vk_ast.specs.Statements.{stmt_of}
 use Rattle.vk_tokens.specs.declared.tokens.Mark.TheVariants as mark
 use Rattle.vk_grammar.specs.Symbols.{head, is_sign}
 use Rattle.vk_stmt_grammar.specs.Reading.{later_local, local_list}
-use Rattle.vk_stmt.proofs.Loops.{Going, behind_first, turned, stopped, done}
+use Rattle.vk_stmt.proofs.Loops.{behind_first, turned, stopped, done}
 use Rattle.vk_stmt.proofs.locals.local_list.Goals as goal
 
 pub variables-init : goal.variables-init

@@ -1,5 +1,4 @@
-use Rattle.std.proofs.Common.{◌≡◌, ◌+◌, ◌<◌, nat_lt, true, false, [], ◌∷◌, length, map, Some, Ok, Err, sym, ap, ◌∙◌, arith, rules, lt-ltb}
-use Rattle.vk_ast.specs.Statements.{stmt_of}
+use Rattle.std.proofs.Common.{◌≡◌, true, false, Some, Err, arith, rules, lt-ltb}
 use Rattle.vk_tokens.specs.declared.tokens.Mark.TheVariants as mark
 use Rattle.vk_grammar.specs.declared.symbols.SymKind.TheVariants as kind
 use Rattle.vk_grammar.specs.declared.symbols.Keyword.TheVariants as keyword
@@ -7,7 +6,7 @@ use Rattle.vk_grammar.specs.Symbols.{head}
 use Rattle.vk_grammar.specs.Parser.{expect}
 use Rattle.vk_stmt_grammar.specs.Reading.{is_not, statement, do_loop, for_rest, plain, jump}
 use Rattle.vk_stmt.specs.Answers.{entries}
-use Rattle.vk_stmt.proofs.Blocks.{Entering, at_first, next_entry, no_entry, at_last}
+use Rattle.vk_stmt.proofs.Blocks.{at_first, next_entry, no_entry, at_last}
 use Rattle.vk_stmt.proofs.Exits.{not_read, is_err}
 use Rattle.vk_stmt.proofs.reader.+reading.Goals as goal
 

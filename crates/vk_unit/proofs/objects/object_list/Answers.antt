@@ -1,4 +1,4 @@
-use Rattle.std.proofs.Common.{◌≡◌, ◌<◌, true, false, ◌∷◌, [], map, arith, rules}
+use Rattle.std.proofs.Common.{◌≡◌, true, false, ◌∷◌, [], map, arith, rules}
 use Rattle.std.proofs.lemmas.List.{map-append}
 use Rattle.vk_ast.specs.Units.{item_of}
 use Rattle.vk_tokens.specs.declared.tokens.Mark.TheVariants as mark

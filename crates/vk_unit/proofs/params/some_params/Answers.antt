@@ -1,4 +1,4 @@
-use Rattle.std.proofs.Common.{◌≡◌, ◌<◌, true, false, ◌∷◌, [], arith, rules}
+use Rattle.std.proofs.Common.{◌≡◌, true, false, arith, rules}
 use Rattle.vk_tokens.specs.declared.tokens.Mark.TheVariants as mark
 use Rattle.vk_grammar.specs.Symbols.{head, is_sign}
 use Rattle.vk_unit_grammar.specs.Reading.{later_param, some_params}

@@ -1,4 +1,4 @@
-use Rattle.std.proofs.Common.{◌≡◌, ◌<◌, ◌+◌, ◌≤◌, length, map, arith, rules}
+use Rattle.std.proofs.Common.{◌≡◌, ◌<◌, length, map, arith, rules}
 use Rattle.std.proofs.lemmas.List.{map-append}
 use Rattle.vk_ast.specs.Units.{item_of}
 use Rattle.vk_unit_grammar.specs.Reading.{items}
