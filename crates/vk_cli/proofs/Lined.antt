@@ -6,7 +6,7 @@ use Rattle.std.specs.Str.Lines.{lines}
 use Rattle.vk_names.specs.declared.rules.NameRule.{NameRule}
 use Rattle.vk_names.specs.Spelling.{Name}
 use Rattle.vk_names.proofs.Exact.{one_refusal, spelled_or_refused}
-use Rattle.vk_cli.specs.declared.answers.Refusal.TheVariants.{Size, Name as Unnamed, NotYet, Call}
+use Rattle.vk_cli.specs.declared.answers.Refusal.TheVariants.{Size, Name as Unnamed, Unit as Unfit, NotYet, Call}
 use Rattle.vk_cli.specs.declared.answers.End.{End}
 use Rattle.vk_cli.specs.declared.answers.End.TheVariants.{Done, Refused, Words, Stopped, ReadFault, WriteFault, Memory}
 use Rattle.vk_cli.specs.Demangle.{AreNames, IsFirstRefused, IsLineRefused, IsNameLine}
@@ -69,6 +69,7 @@ once_line bytes (Refused (Unnamed line a r)) i at rule h small first =
     let same = one_first (lines bytes) (line - 1) i a at r rule h.1 first in
     let number : line ≡ i + 1 = omega (arith, h.0, same.0) in
     inl (λ k. Refused (Unnamed (number k) (same.1 k) (same.2 k)))
+once_line bytes (Refused (Unfit input line directive broken)) i at rule h small first = absurd h
 once_line bytes (Refused (NotYet input)) i at rule h small first = absurd h
 once_line bytes (Refused (Call fault)) i at rule h small first = absurd h
 once_line bytes (Words fault) i at rule h small first = absurd h
@@ -83,6 +84,7 @@ pub complete_names : (bytes : List ℕ) (ns : List Name) (end : End) → IsNames
 complete_names bytes ns Done h small named reads writes = inl refl
 complete_names bytes ns (Refused (Size input)) h small named reads writes = absurd (small h.1)
 complete_names bytes ns (Refused (Unnamed line at rule)) h small named reads writes = absurd (names_not_refused ns (lines bytes) (line - 1) at rule named h.1)
+complete_names bytes ns (Refused (Unfit input line directive rule)) h small named reads writes = absurd h
 complete_names bytes ns (Refused (NotYet input)) h small named reads writes = absurd h
 complete_names bytes ns (Refused (Call fault)) h small named reads writes = absurd h
 complete_names bytes ns (Words fault) h small named reads writes = absurd h

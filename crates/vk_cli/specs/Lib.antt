@@ -1,9 +1,5 @@
 pub mod Answers
-pub mod Arguments
 pub mod Demangle
-pub mod Emission
-pub mod Lines
-pub mod Machine
-pub mod Meaning
 pub mod Outcome
 pub mod Request
+pub mod Units

@@ -1,10 +1,13 @@
 // How a command ends, with the status and the line on standard error of each end.
 
 ghost use Rattle.std.specs.Prelude.{◌≡◌, IfOk, string_bytes};
-ghost use Rattle.vk_cli.specs.Answers.{call_label, label_of_name, message_of, status_of, stop_word, word_label};
+ghost use Rattle.vk_cli.specs.Answers.{message_of, status_of};
 
+use crate::labels::{name_label, unit_label};
 use std::alloc::{AllocError, Global};
+use vk_call::word_of_stop;
 use vk_names::NameRule;
+use vk_tokens::UnitRule;
 use vk_types::Stop;
 
 /// A rule that the words of a command line break.
@@ -53,11 +56,27 @@ pub struct CallFault {
 #[derive(Clone, Copy, PartialEq, Eq, Debug)]
 pub enum Refusal {
     /// The input file is longer than its limit.
-    Size { input: usize },
+    Size {
+        input: usize,
+    },
     /// A line, from 1, is no name: the place in it, from 0, and the rule.
-    Name { line: u32, at: u32, rule: NameRule },
+    Name {
+        line: u32,
+        at: u32,
+        rule: NameRule,
+    },
+    /// The unit breaks a rule, on this line, from 1. `directive` is the number of the directive that is concerned, from 1, and 0
+    /// where none is.
+    Unit {
+        input: usize,
+        line: u32,
+        directive: u32,
+        rule: UnitRule,
+    },
     /// The unit is not of a form that is built yet.
-    NotYet { input: usize },
+    NotYet {
+        input: usize,
+    },
     Call(CallFault),
 }
 
@@ -123,6 +142,15 @@ impl Refusal {
                 let label = name_label(rule);
                 format!(in alloc; "vfabi: line {line}: {label} at {at}\n")
             }
+            Refusal::Unit {
+                line,
+                directive,
+                rule,
+                ..
+            } => {
+                let label = unit_label(rule);
+                format!(in alloc; "vfabi: {file} line {line} directive {directive}: {label}\n")
+            }
             Refusal::NotYet { .. } => format!(in alloc; "vfabi: {file}: X1\n"),
             Refusal::Call(fault) => {
                 let label = fault.rule.label();
@@ -130,62 +158,5 @@ impl Refusal {
                 format!(in alloc; "vfabi: call: {label} {first} {second}\n")
             }
         }
-    }
-}
-
-impl WordRule {
-    fn label(self) -> &'static str
-        ensures { result.now ≡ word_label self }
-    {
-        match self {
-            WordRule::P1 => "P1",
-            WordRule::P2 => "P2",
-            WordRule::P3 => "P3",
-            WordRule::P4 => "P4",
-        }
-    }
-}
-
-impl CallRule {
-    fn label(self) -> &'static str
-        ensures { result.now ≡ call_label self }
-    {
-        match self {
-            CallRule::A1 => "A1",
-            CallRule::A2 => "A2",
-            CallRule::A3 => "A3",
-            CallRule::A4 => "A4",
-            CallRule::A5 => "A5",
-        }
-    }
-}
-
-fn name_label(rule: NameRule) -> &'static str
-    ensures { result.now ≡ label_of_name rule }
-{
-    match rule {
-        NameRule::N1 => "N1",
-        NameRule::N2 => "N2",
-        NameRule::N3 => "N3",
-        NameRule::N4 => "N4",
-        NameRule::N5 => "N5",
-        NameRule::N6 => "N6",
-        NameRule::N7 => "N7",
-        NameRule::N8 => "N8",
-        NameRule::N9 => "N9",
-        NameRule::N10 => "N10",
-        NameRule::N11 => "N11",
-        NameRule::N12 => "N12",
-        NameRule::N13 => "N13",
-    }
-}
-
-fn word_of_stop(stop: Stop) -> &'static str
-    ensures { result.now ≡ stop_word stop }
-{
-    match stop {
-        Stop::Divide => "divide",
-        Stop::Bounds => "bounds",
-        Stop::Turns => "turns",
     }
 }

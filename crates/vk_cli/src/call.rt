@@ -3,25 +3,24 @@
 ghost use Rattle.std.specs.Prelude.{◌≡◌, ◌≢◌, ℕ, ◌+◌, ◌≤◌, ◌⊎◌, ◌++◌, List, [], length, IsTrue, Some};
 ghost use Rattle.std.specs.Str.Lines.{lines};
 ghost use Rattle.vk_types.specs.declared.types.Stop.{Stop};
-ghost use Rattle.vk_form.specs.Form.{SmallUnit};
-ghost use Rattle.vk_form.specs.Grammar.{IsText};
 ghost use Rattle.vk_io.specs.Counts.{CountsOf, Rose, SameCounts};
 ghost use Rattle.vk_io.specs.Sink.{GrowsWithin};
 ghost use Rattle.vk_io.specs.Store.{SameFiles};
+ghost use Rattle.vk_tokens.specs.declared.rules.UnitRule.{UnitRule};
 ghost use Rattle.vk_names.specs.declared.rules.NameRule.{NameRule};
 ghost use Rattle.vk_names.specs.Spelling.{Name};
-ghost use Rattle.vk_cli.specs.declared.answers.CallFault.{CallFault};
+ghost use Rattle.vk_simple.specs.Form.{FormTree};
 ghost use Rattle.vk_cli.specs.declared.answers.CallRule.{CallRule};
 ghost use Rattle.vk_cli.specs.declared.answers.End.{End};
 ghost use Rattle.vk_cli.specs.declared.answers.Refusal.{Refusal};
 ghost use Rattle.vk_cli.specs.declared.answers.WordFault.{WordFault};
 ghost use Rattle.vk_cli.specs.declared.answers.WordRule.{WordRule};
 ghost use Rattle.vk_cli.specs.Answers.{message_of};
-ghost use Rattle.vk_cli.specs.Arguments.{IsLeastFault};
 ghost use Rattle.vk_cli.specs.Demangle.{AreNames, IsFirstRefused, name_lines};
-ghost use Rattle.vk_cli.specs.Lines.{lane_lines, vector_name};
-ghost use Rattle.vk_cli.specs.Outcome.{Asks, IsAnswer, IsCall, IsCallRefused, IsEarly, IsNamesAnswer, IsOnceRead, IsPossible, IsTooLarge, IsUnformed, IsUnread};
+ghost use Rattle.vk_call.specs.Lines.{lane_lines};
+ghost use Rattle.vk_cli.specs.Outcome.{AreWrongAt, Asks, IsCall, IsEarly, IsFaultToldOnceRead, IsLanesAnswer, IsNamesAnswer, IsOnceRead, IsPossible, IsTooLarge, IsUnread, vector_name};
 ghost use Rattle.vk_cli.specs.Request.{Asked, Command, IsCommand, IsWordFault, command_of, demangle, input_of, lanes};
+ghost use Rattle.vk_cli.specs.Units.{IsFormed, IsUnformed, IsUnitFault};
 
 use crate::answers::{End, NO_MEMORY, WordFault};
 use crate::request::request_of;
@@ -32,10 +31,8 @@ use vk_io::{Outside, Sink, Store, Words};
 
 // Does what a request asks, but for the line on standard error.
 fn answer<S: Store, O: Sink>(alloc: Global, request: Request, store: &mut S, out: &mut O) -> End
-    ensures lanes { IsTrue (S.tells store.old) → (r : Asked) (bytes : List ℕ) (u : SmallUnit) →
-        command_of request.entry ≡ lanes r → S.file store.old r.unit ≡ Some bytes → IsText u bytes → IsAnswer u r result }
-    ensures unformed { IsTrue (S.tells store.old) → (r : Asked) (bytes : List ℕ) →
-        command_of request.entry ≡ lanes r → S.file store.old r.unit ≡ Some bytes → ((u : SmallUnit) → IsText u bytes → ⊥) → IsUnformed result }
+    ensures lanes { IsTrue (S.tells store.old) → (r : Asked) (bytes : List ℕ) →
+        command_of request.entry ≡ lanes r → S.file store.old r.unit ≡ Some bytes → IsLanesAnswer bytes r result }
     ensures names { IsTrue (S.tells store.old) → (file : List ℕ) (bytes : List ℕ) →
         command_of request.entry ≡ demangle file → S.file store.old file ≡ Some bytes → IsNamesAnswer bytes result }
     ensures size { IsTrue (S.tells store.old) → (bytes : List ℕ) →
@@ -47,12 +44,12 @@ fn answer<S: Store, O: Sink>(alloc: Global, request: Request, store: &mut S, out
         Rose (S.reads store.old (input_of (command_of request.entry))) (S.reads store.new (input_of (command_of request.entry))) }
     ensures write_only { result ≡ End.WriteFault → Rose (O.faults out.old) (O.faults out.new) }
 
-    ensures lanes_done { IsTrue (S.tells store.old) → IsTrue (O.tells out.old) → (r : Asked) (bytes : List ℕ) (u : SmallUnit) →
-        command_of request.entry ≡ lanes r → S.file store.old r.unit ≡ Some bytes → IsText u bytes → result ≡ End.Done →
-        O.bytes out.new ≡ O.bytes out.old ++ lane_lines u r.arguments }
-    ensures lanes_prefix { IsTrue (S.tells store.old) → IsTrue (O.tells out.old) → (r : Asked) (bytes : List ℕ) (u : SmallUnit) →
-        command_of request.entry ≡ lanes r → S.file store.old r.unit ≡ Some bytes → IsText u bytes →
-        GrowsWithin (O.bytes out.old) (O.bytes out.new) (lane_lines u r.arguments) }
+    ensures lanes_done { IsTrue (S.tells store.old) → IsTrue (O.tells out.old) → (r : Asked) (bytes : List ℕ) (f : FormTree) →
+        command_of request.entry ≡ lanes r → S.file store.old r.unit ≡ Some bytes → IsFormed bytes f → result ≡ End.Done →
+        O.bytes out.new ≡ O.bytes out.old ++ lane_lines f r.arguments }
+    ensures lanes_prefix { IsTrue (S.tells store.old) → IsTrue (O.tells out.old) → (r : Asked) (bytes : List ℕ) (f : FormTree) →
+        command_of request.entry ≡ lanes r → S.file store.old r.unit ≡ Some bytes → IsFormed bytes f →
+        GrowsWithin (O.bytes out.old) (O.bytes out.new) (lane_lines f r.arguments) }
     ensures names_done { IsTrue (S.tells store.old) → IsTrue (O.tells out.old) → (file : List ℕ) (bytes : List ℕ) (ns : List Name) →
         command_of request.entry ≡ demangle file → S.file store.old file ≡ Some bytes → AreNames ns (lines bytes) → result ≡ End.Done →
         O.bytes out.new ≡ O.bytes out.old ++ name_lines ns }
@@ -121,16 +118,17 @@ impl Request<'_> {
 
 /// Does what the words ask.
 ///
-/// - `lanes --isa b UNIT NAME ARG..` reads the unit, a function of the small form, calls its vector variant NAME on four lanes
-///   of arguments, and writes the line `lane I: N` of each lane on `out`.
+/// - `lanes --isa b UNIT NAME ARG..` reads the unit, one function that returns an integer expression of its parameters, calls its
+///   vector variant NAME on the lanes' arguments, and writes the line `lane I: N` of each lane on `out`.
 /// - `demangle FILE` reads one vector name a line and writes each in words.
 ///
 /// An end other than `Done` puts its one line on `err`; a fault of `err` changes no answer. The answers, in this order:
 /// `Words` P1 where there is no word, P2 where the first is no command, P3 where the others are not of its form; `ReadFault`
-/// where the input file could not be read; `Refused` `Size` (Z1) where it has more than 1048576 bytes; of `lanes` `NotYet`
-/// where the unit is not of the small form, A1 where NAME is not its vector name, A4 with a parameter and a lane where an
-/// argument is missing, extra or wrong; of `demangle` `Name` with the first line that is no name, its place and rule; `Memory`
-/// for want of memory, at any time; `WriteFault` where `out` failed.
+/// where the input file could not be read; `Refused` `Size` (Z1) where it has more than 1048576 bytes; of `lanes` `Unit` with
+/// the rule of C1 to C7 that the unit breaks and its line, `NotYet` (X1) where the unit is not of the form that is built, A1
+/// where NAME is not its vector name, A4 with a parameter and a lane where an argument is missing, extra or wrong; of
+/// `demangle` `Name` with the first line that is no name, its place and rule; `Memory` for want of memory, at any time;
+/// `WriteFault` where `out` failed.
 pub fn vfabi<S: Store, O: Sink, E: Sink>(
     alloc: Global,
     words: &Words,
@@ -139,12 +137,12 @@ pub fn vfabi<S: Store, O: Sink, E: Sink>(
     err: &mut E,
 ) -> End
     // What `lanes` prints.
-    ensures lanes_done { IsTrue (S.tells store.old) → IsTrue (O.tells out.old) → (r : Asked) (bytes : List ℕ) (u : SmallUnit) →
-        Asks words.now (S.file store.old) (lanes r) bytes → IsText u bytes → result ≡ End.Done →
-        O.bytes out.new ≡ O.bytes out.old ++ lane_lines u r.arguments }
-    ensures lanes_prefix { IsTrue (S.tells store.old) → IsTrue (O.tells out.old) → (r : Asked) (bytes : List ℕ) (u : SmallUnit) →
-        Asks words.now (S.file store.old) (lanes r) bytes → IsText u bytes →
-        GrowsWithin (O.bytes out.old) (O.bytes out.new) (lane_lines u r.arguments) }
+    ensures lanes_done { IsTrue (S.tells store.old) → IsTrue (O.tells out.old) → (r : Asked) (bytes : List ℕ) (f : FormTree) →
+        Asks words.now (S.file store.old) (lanes r) bytes → IsFormed bytes f → result ≡ End.Done →
+        O.bytes out.new ≡ O.bytes out.old ++ lane_lines f r.arguments }
+    ensures lanes_prefix { IsTrue (S.tells store.old) → IsTrue (O.tells out.old) → (r : Asked) (bytes : List ℕ) (f : FormTree) →
+        Asks words.now (S.file store.old) (lanes r) bytes → IsFormed bytes f →
+        GrowsWithin (O.bytes out.old) (O.bytes out.new) (lane_lines f r.arguments) }
 
     // What `demangle` prints.
     ensures names_done { IsTrue (S.tells store.old) → IsTrue (O.tells out.old) → (file bytes : List ℕ) (ns : List Name) →
@@ -169,23 +167,23 @@ pub fn vfabi<S: Store, O: Sink, E: Sink>(
     ensures never { (stop : Stop) → result ≡ End.Stopped stop → ⊥ }
 
     // When those of `lanes` come.
-    ensures unit_only { IsTrue (S.tells store.old) → (r : Asked) (bytes : List ℕ) (u : SmallUnit) (input : ℕ) →
-        Asks words.now (S.file store.old) (lanes r) bytes → IsText u bytes → result ≡ End.Refused (Refusal.NotYet input) → ⊥ }
-    ensures unit_when { IsTrue (S.tells store.old) → (r : Asked) (bytes : List ℕ) →
-        Asks words.now (S.file store.old) (lanes r) bytes → (IsTooLarge bytes → ⊥) → ((u : SmallUnit) → IsText u bytes → ⊥) →
+    ensures lanes_only { IsTrue (S.tells store.old) → (r : Asked) (bytes : List ℕ) →
+        Asks words.now (S.file store.old) (lanes r) bytes → IsLanesAnswer bytes r result }
+    ensures fault_when { IsTrue (S.tells store.old) → (r : Asked) (bytes : List ℕ) (line : ℕ) (rule : UnitRule) →
+        Asks words.now (S.file store.old) (lanes r) bytes → (IsTooLarge bytes → ⊥) → IsUnitFault bytes line rule →
+        IsFaultToldOnceRead bytes result }
+    ensures form_when { IsTrue (S.tells store.old) → (r : Asked) (bytes : List ℕ) →
+        Asks words.now (S.file store.old) (lanes r) bytes → (IsTooLarge bytes → ⊥) → IsUnformed bytes →
         IsOnceRead (End.Refused (Refusal.NotYet 0)) result }
-    ensures call_only { IsTrue (S.tells store.old) → (r : Asked) (bytes : List ℕ) (u : SmallUnit) (fault : CallFault) →
-        Asks words.now (S.file store.old) (lanes r) bytes → IsText u bytes → result ≡ End.Refused (Refusal.Call fault) →
-        IsCallRefused u r fault.rule fault.first fault.second }
-    ensures name_when { IsTrue (S.tells store.old) → (r : Asked) (bytes : List ℕ) (u : SmallUnit) →
-        Asks words.now (S.file store.old) (lanes r) bytes → IsText u bytes → r.name ≢ vector_name u →
+    ensures name_when { IsTrue (S.tells store.old) → (r : Asked) (bytes : List ℕ) (f : FormTree) →
+        Asks words.now (S.file store.old) (lanes r) bytes → (IsTooLarge bytes → ⊥) → IsFormed bytes f → r.name ≢ vector_name f →
         IsOnceRead (End.Refused (Refusal.Call (record { rule = CallRule.A1; first = 0; second = 0 }))) result }
-    ensures arguments_when { IsTrue (S.tells store.old) → (r : Asked) (bytes : List ℕ) (u : SmallUnit) (parameter lane : ℕ) →
-        Asks words.now (S.file store.old) (lanes r) bytes → IsText u bytes → r.name ≡ vector_name u →
-        IsLeastFault r.arguments (length u.parameters) parameter lane →
+    ensures arguments_when { IsTrue (S.tells store.old) → (r : Asked) (bytes : List ℕ) (f : FormTree) (parameter lane : ℕ) →
+        Asks words.now (S.file store.old) (lanes r) bytes → (IsTooLarge bytes → ⊥) → IsFormed bytes f → r.name ≡ vector_name f →
+        AreWrongAt f r parameter lane →
         IsOnceRead (End.Refused (Refusal.Call (record { rule = CallRule.A4; first = parameter; second = lane }))) result }
-    ensures lanes_complete { IsTrue (S.tells store.old) → (r : Asked) (bytes : List ℕ) (u : SmallUnit) →
-        Asks words.now (S.file store.old) (lanes r) bytes → IsText u bytes → IsCall u r →
+    ensures lanes_complete { IsTrue (S.tells store.old) → (r : Asked) (bytes : List ℕ) (f : FormTree) →
+        Asks words.now (S.file store.old) (lanes r) bytes → (IsTooLarge bytes → ⊥) → IsFormed bytes f → IsCall f r →
         (Rose (S.reads store.old r.unit) (S.reads store.new r.unit) → ⊥) → (Rose (O.faults out.old) (O.faults out.new) → ⊥) →
         (result ≡ End.Done) ⊎ (result ≡ End.Memory) }
 

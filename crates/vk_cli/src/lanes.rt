@@ -1,24 +1,28 @@
 // The command `lanes`.
 
-ghost use Rattle.std.specs.Prelude.{◌≡◌, ℕ, ◌≤◌, ◌++◌, List, string_bytes, Some, IfOk, IfErr, IsErrOf, IsTrue};
+ghost use Rattle.std.specs.Prelude.{◌≡◌, ◌↔◌, ℕ, ◌≤◌, ◌++◌, List, length, string_bytes, Some, IfOk, IfErr, IsTrue};
 ghost use Rattle.std.specs.List.{flat_map};
-ghost use Rattle.vk_form.specs.Form.{SmallUnit, tree_of, unit_of};
-ghost use Rattle.vk_form.specs.Grammar.{IsAllowed, IsText, NumbersAreSmall};
+ghost use Rattle.vk_ast.specs.Units.{items_of};
+ghost use Rattle.vk_ast.specs.Tree.{expr_of};
 ghost use Rattle.vk_io.specs.Counts.{CountsOf, Rose, SameCounts};
 ghost use Rattle.vk_io.specs.Sink.{GrowsWithin};
 ghost use Rattle.vk_io.specs.Store.{SameFiles};
-ghost use Rattle.vk_cli.specs.Lines.{lane_lines};
-ghost use Rattle.vk_cli.specs.Outcome.{IsAnswer, IsCall, IsEarly, IsPossible, IsTooLarge, IsUncalled, IsUnformed, IsUnread};
+ghost use Rattle.vk_simple.specs.Form.{CanCompile, FormTree, form_tree};
+ghost use Rattle.vk_call.specs.Lines.{lane_lines};
+ghost use Rattle.vk_cli.specs.Outcome.{IsCall, IsEarly, IsLanesAnswer, IsPossible, IsRefusal, IsTooLarge, IsUncalled, IsUnread};
 ghost use Rattle.vk_cli.specs.Request.{asked_of};
+ghost use Rattle.vk_cli.specs.Units.{IsFormed, IsUnit};
 
 use crate::answers::{CallFault, CallRule, End, Refusal};
-use crate::arguments::{ArgumentFail, argument_rows};
 use crate::input::read_input;
-use crate::variant::{is_same, lines_of, results, vector_name_of};
+use crate::unit::unit_of;
 use crate::words::Call;
 use std::alloc::{AllocError, Global};
-use vk_form::{Form, FormFail, read_form};
+use vk_call::{ArgumentFail, call as call_lanes};
 use vk_io::{Outside, Sink, Store, put_lines};
+use vk_simple::form::{Form, form_of};
+use vk_simple::variant::vector_name;
+use vk_tokens::UnitFail;
 
 impl From<AllocError> for End {
     ghost use Rattle.vk_cli.specs.declared.answers.End.{End};
@@ -32,12 +36,8 @@ impl From<AllocError> for End {
 
 /// Reads the unit of a call, calls its variant and writes the lines.
 pub fn lanes<S: Store, O: Sink>(alloc: Global, call: Call, store: &mut S, out: &mut O) -> End
-    ensures answers { IsTrue (S.tells store.old) → (bytes : List ℕ) (u : SmallUnit) →
-        S.file store.old (asked_of call.entry).unit ≡ Some bytes → IsText u bytes → IsAnswer u (asked_of call.entry) result }
-    ensures unread { IsTrue (S.tells store.old) → (bytes : List ℕ) →
-        S.file store.old (asked_of call.entry).unit ≡ Some bytes → ((u : SmallUnit) → IsText u bytes → ⊥) → IsUnformed result }
-    ensures size { IsTrue (S.tells store.old) → (bytes : List ℕ) →
-        S.file store.old (asked_of call.entry).unit ≡ Some bytes → result ≡ End.Refused (Refusal.Size 0) → IsTooLarge bytes }
+    ensures answers { IsTrue (S.tells store.old) → (bytes : List ℕ) →
+        S.file store.old (asked_of call.entry).unit ≡ Some bytes → IsLanesAnswer bytes (asked_of call.entry) result }
     ensures large { IsTrue (S.tells store.old) → (bytes : List ℕ) →
         S.file store.old (asked_of call.entry).unit ≡ Some bytes → IsTooLarge bytes → IsUnread result }
     ensures possible { IsPossible result }
@@ -45,12 +45,12 @@ pub fn lanes<S: Store, O: Sink>(alloc: Global, call: Call, store: &mut S, out: &
         Rose (S.reads store.old (asked_of call.entry).unit) (S.reads store.new (asked_of call.entry).unit) }
     ensures write_only { result ≡ End.WriteFault → Rose (O.faults out.old) (O.faults out.new) }
 
-    ensures done { IsTrue (S.tells store.old) → IsTrue (O.tells out.old) → (bytes : List ℕ) (u : SmallUnit) →
-        S.file store.old (asked_of call.entry).unit ≡ Some bytes → IsText u bytes → result ≡ End.Done →
-        O.bytes out.new ≡ O.bytes out.old ++ lane_lines u (asked_of call.entry).arguments }
-    ensures prefix { IsTrue (S.tells store.old) → IsTrue (O.tells out.old) → (bytes : List ℕ) (u : SmallUnit) →
-        S.file store.old (asked_of call.entry).unit ≡ Some bytes → IsText u bytes →
-        GrowsWithin (O.bytes out.old) (O.bytes out.new) (lane_lines u (asked_of call.entry).arguments) }
+    ensures done { IsTrue (S.tells store.old) → IsTrue (O.tells out.old) → (bytes : List ℕ) (f : FormTree) →
+        S.file store.old (asked_of call.entry).unit ≡ Some bytes → IsFormed bytes f → result ≡ End.Done →
+        O.bytes out.new ≡ O.bytes out.old ++ lane_lines f (asked_of call.entry).arguments }
+    ensures prefix { IsTrue (S.tells store.old) → IsTrue (O.tells out.old) → (bytes : List ℕ) (f : FormTree) →
+        S.file store.old (asked_of call.entry).unit ≡ Some bytes → IsFormed bytes f →
+        GrowsWithin (O.bytes out.old) (O.bytes out.new) (lane_lines f (asked_of call.entry).arguments) }
     ensures early { IsTrue (O.tells out.old) → IsEarly result → O.bytes out.new ≡ O.bytes out.old }
 
     ensures reads { CountsOf (asked_of call.entry).unit (S.reads store.old) (S.reads store.new) }
@@ -62,11 +62,11 @@ pub fn lanes<S: Store, O: Sink>(alloc: Global, call: Call, store: &mut S, out: &
     ensures out_lean { O.is_lean out.new ≡ O.is_lean out.old }
     ensures out_tells { O.tells out.new ≡ O.tells out.old }
 {
-    let form = match read_unit(alloc, store, call.unit) {
-        Ok(form) => form,
+    let bytes = match read_input(alloc, store, call.unit) {
+        Ok(bytes) => bytes,
         Err(end) => return end,
     };
-    let lines = match call_variant(alloc, &form, call) {
+    let lines = match call_unit(alloc, &bytes, call) {
         Ok(lines) => lines,
         Err(end) => return end,
     };
@@ -77,61 +77,58 @@ pub fn lanes<S: Store, O: Sink>(alloc: Global, call: Call, store: &mut S, out: &
     }
 }
 
-// Reads the unit of a name.
-fn read_unit<S: Store>(alloc: Global, store: &mut S, name: &str) -> Result<Form, End>
-    ensures form { IsTrue (S.tells store.old) → (bytes : List ℕ) → S.file store.old name.now ≡ Some bytes →
-        IfOk result (λ form. IsText (unit_of form) bytes) }
-    ensures only { IsTrue (S.tells store.old) → (bytes : List ℕ) (u : SmallUnit) → S.file store.old name.now ≡ Some bytes → IsText u bytes →
-        IfOk result (λ form. unit_of form ≡ u) }
-    ensures allowed { IfOk result (λ form. IsAllowed (unit_of form)) }
-    ensures numbers { IfOk result (λ form. NumbersAreSmall (tree_of form.result)) }
-    ensures unformed { IfErr result IsUnformed }
-    ensures refused { IsTrue (S.tells store.old) → (bytes : List ℕ) (u : SmallUnit) → S.file store.old name.now ≡ Some bytes → IsText u bytes →
-        IsErrOf result (End.Refused (Refusal.NotYet 0)) → ⊥ }
-    ensures size { IsTrue (S.tells store.old) → (bytes : List ℕ) → S.file store.old name.now ≡ Some bytes →
-        IsErrOf result (End.Refused (Refusal.Size 0)) → IsTooLarge bytes }
-    ensures large { IsTrue (S.tells store.old) → (bytes : List ℕ) → S.file store.old name.now ≡ Some bytes → IsTooLarge bytes →
-        IsErrOf result (End.Refused (Refusal.NotYet 0)) → ⊥ }
-
-    ensures failed { IsErrOf result (End.ReadFault 0) → Rose (S.reads store.old name.now) (S.reads store.new name.now) }
-    ensures reads { CountsOf name.now (S.reads store.old) (S.reads store.new) }
-    ensures writes { SameCounts (S.writes store.old) (S.writes store.new) }
-    ensures tells { S.tells store.new ≡ S.tells store.old }
-    ensures same { SameFiles (S.file store.old) (S.file store.new) }
+// The lines of a call of the variant of a unit with these bytes.
+fn call_unit(alloc: Global, bytes: &[u8], call: Call) -> Result<Vec<String>, End>
+    requires { length bytes.now ≤ 1048576 }
+    ensures lines { IfOk result (λ lines. (f : FormTree) × IsFormed bytes.now f × IsCall f (asked_of call.entry)
+        × (flat_map string_bytes lines.items ≡ lane_lines f (asked_of call.entry).arguments)) }
+    ensures answers { IfErr result (λ end. IsLanesAnswer bytes.now (asked_of call.entry) end) }
+    ensures refusal { IfErr result IsRefusal }
+    ensures possible { IfErr result IsPossible }
 {
-    let bytes = match read_input(alloc, store, name) {
-        Ok(bytes) => bytes,
-        Err(end) => return Err(end),
+    let unit = match unit_of(alloc, bytes) {
+        Ok(unit) => unit,
+        Err(UnitFail::Fault { line, rule }) => {
+            return Err(End::Refused(Refusal::Unit {
+                input: 0,
+                line,
+                directive: 0,
+                rule,
+            }));
+        }
+        Err(UnitFail::Memory) => return Err(End::Memory),
     };
-    match read_form(alloc, &bytes) {
-        Ok(form) => Ok(form),
-        Err(FormFail::NotForm) => Err(End::Refused(Refusal::NotYet { input: 0 })),
-        Err(FormFail::Memory) => Err(End::Memory),
+    match form_of(&unit) {
+        Some(form) => call_variant(alloc, &form, call),
+        None => Err(End::Refused(Refusal::NotYet { input: 0 })),
     }
 }
 
 // Calls the vector variant of a unit on the lanes' arguments, and gives the lines of its results.
 fn call_variant(alloc: Global, form: &Form, call: Call) -> Result<Vec<String>, End>
-    requires allowed { IsAllowed (unit_of form.now) }
-    requires numbers { NumbersAreSmall (tree_of form.now.result) }
-    ensures call { IfOk result (λ _. IsCall (unit_of form.now) (asked_of call.entry)) }
-    ensures lines { IfOk result (λ lines. flat_map string_bytes lines.items ≡ lane_lines (unit_of form.now) (asked_of call.entry).arguments) }
-    ensures uncalled { IfErr result (IsUncalled (unit_of form.now) (asked_of call.entry)) }
+    requires { CanCompile form.now.params.now (expr_of form.now.value.now) }
+    ensures call { IfOk result (λ _. IsCall (form_tree form.now) (asked_of call.entry)) }
+    ensures lines { IfOk result (λ lines. flat_map string_bytes lines.items ≡ lane_lines (form_tree form.now) (asked_of call.entry).arguments) }
+    ensures uncalled { IfErr result (IsUncalled (form_tree form.now) (asked_of call.entry)) }
 {
-    let name = vector_name_of(alloc, form)?;
+    let name = vector_name(alloc, form)?;
     if !is_same(&name, call.name.as_bytes()) {
         return Err(refused(CallRule::A1, 0, 0));
     }
-    let rows = match argument_rows(alloc, call.arguments, form.parameters.len()) {
-        Ok(rows) => rows,
+    match call_lanes(alloc, form, call.arguments) {
+        Ok(lines) => Ok(lines),
         Err(ArgumentFail::Fault { parameter, lane }) => {
-            return Err(refused(CallRule::A4, parameter, lane));
+            Err(refused(CallRule::A4, parameter, lane))
         }
-        Err(ArgumentFail::Memory) => return Err(End::Memory),
-    };
-    let row = results(alloc, form, &rows)?;
-    let lines = lines_of(alloc, &row)?;
-    Ok(lines)
+        Err(ArgumentFail::Memory) => Err(End::Memory),
+    }
+}
+
+// Whether two texts have the same bytes.
+fn is_same(left: &[u8], right: &[u8]) -> bool
+    ensures { IsTrue result ↔ (left.now ≡ right.now) }
+{
+    left == right
 }
 
 // The end of a call that a rule refuses.

@@ -2,19 +2,18 @@
 #![tactic(auto)]
 
 mod answers;
-mod arguments;
 mod call;
-mod compile;
 mod demangle;
 mod describe;
 mod input;
+mod labels;
 mod lanes;
-mod machine;
+mod laws;
 mod names;
 mod request;
 #[cfg(test)]
 mod tests;
-mod variant;
+mod unit;
 mod words;
 
 use answers::{End, NO_MEMORY};

@@ -1,15 +1,25 @@
 //! Whole calls, with what they write and how they end.
+mod calls;
 mod name_files;
-mod rows;
+mod outside;
 mod single_words;
+mod sources;
+mod units;
+mod values;
+mod wrong_words;
 
 use super::*;
+use calls::REFUSED;
 use name_files::NAME_FILES;
-use rows::{CALLS, SELF};
+use outside::OUTSIDE;
 use single_words::WORDS;
+use sources::SELF;
 use std::alloc::Global;
 use std::test::Fail;
+use units::UNITS;
+use values::VALUES;
 use vk_io::{MemSink, MemStore};
+use wrong_words::WRONG_WORDS;
 
 // What a call wrote, and its status.
 #[derive(Drop)]
@@ -71,11 +81,53 @@ fn difference(
 }
 
 #[test]
-fn calls_answer(rt: HostRuntime) -> Result<(), Fail> {
-    for (unit, text, out, err, status) in &CALLS {
+fn lanes_have_their_values(rt: HostRuntime) -> Result<(), Fail> {
+    for (unit, text, out, err, status) in &VALUES {
         let words = split(rt.alloc(), text)?;
         let found = difference(rt.alloc(), unit, &words, (out, err, *status))?;
-        assert_eq!(rt; found, "none", "at {text}");
+        assert_eq!(rt; found, "none", "at {text} on {unit}");
+    }
+    Ok(())
+}
+
+#[test]
+fn functions_have_the_values_of_c(rt: HostRuntime) -> Result<(), Fail> {
+    let alloc = rt.alloc();
+    for (function, text, out) in &OUTSIDE {
+        let unit = format!(in alloc; "#pragma omp declare simd notinbranch\n{function}\n")?;
+        let words = split(alloc, text)?;
+        let found = difference(alloc, unit.as_str(), &words, (out, "", 0))?;
+        assert_eq!(rt; found, "none", "at {function}");
+    }
+    Ok(())
+}
+
+#[test]
+fn wrong_words_are_told(rt: HostRuntime) -> Result<(), Fail> {
+    for (unit, text, out, err, status) in &WRONG_WORDS {
+        let words = split(rt.alloc(), text)?;
+        let found = difference(rt.alloc(), unit, &words, (out, err, *status))?;
+        assert_eq!(rt; found, "none", "at {text} on {unit}");
+    }
+    Ok(())
+}
+
+#[test]
+fn units_are_refused(rt: HostRuntime) -> Result<(), Fail> {
+    for (unit, text, out, err, status) in &UNITS {
+        let words = split(rt.alloc(), text)?;
+        let found = difference(rt.alloc(), unit, &words, (out, err, *status))?;
+        assert_eq!(rt; found, "none", "at {text} on {unit}");
+    }
+    Ok(())
+}
+
+#[test]
+fn calls_are_refused(rt: HostRuntime) -> Result<(), Fail> {
+    for (unit, text, out, err, status) in &REFUSED {
+        let words = split(rt.alloc(), text)?;
+        let found = difference(rt.alloc(), unit, &words, (out, err, *status))?;
+        assert_eq!(rt; found, "none", "at {text} on {unit}");
     }
     Ok(())
 }
@@ -101,7 +153,7 @@ fn long_files_are_refused(rt: HostRuntime) -> Result<(), Fail> {
         (
             1048576,
             "lanes --isa b f.c _ZGVbN4v_f 1",
-            "vfabi: f.c: X1\n",
+            "vfabi: f.c line 1 directive 0: C5\n",
         ),
         (1048577, "demangle f.c", "vfabi: f.c: Z1\n"),
         (1048576, "demangle f.c", "vfabi: line 1: N1 at 0\n"),

@@ -1,4 +1,4 @@
 mod Copying
 mod Deep
-mod Facts
+pub mod Facts
 mod Numbers

@@ -52,8 +52,8 @@ pub fn compile(
     })
 }
 
-// The types of the parameters.
-fn heads(alloc: Global, params: &[ParamDecl]) -> Result<Vec<CType>, AllocError>
+/// The types of the parameters.
+pub fn heads(alloc: Global, params: &[ParamDecl]) -> Result<Vec<CType>, AllocError>
     ensures { IfOk result (λ types. types.items ≡ heads_of params.now) }
 {
     params.iter().map(|param| param.ctype).collect(alloc)
@@ -120,8 +120,8 @@ pub(crate) fn is_named(param: &ParamDecl, id: NameId) -> bool
     }
 }
 
-// The type of an integer.
-pub(crate) fn integer(ctype: CType) -> Ty
+/// The type of an integer. Other types are no integers, and are told as `long`.
+pub fn integer(ctype: CType) -> Ty
     ensures { result ≡ integer_of (Some ctype) }
 {
     match ctype {

@@ -1,5 +1,5 @@
 //! Words that are empty or hold blanks, and what a call with them answers.
-use super::rows::{PRODUCT, SELF};
+use super::sources::{PRODUCT, SELF};
 
 // The same, for words that stand one by one.
 pub(super) static WORDS: [(&str, &[&str], &str, &str, u8); 8] = [

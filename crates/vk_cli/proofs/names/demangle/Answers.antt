@@ -3,7 +3,7 @@ use Rattle.std.proofs.Common.{◌<◌, ◌-◌, ap, sym, ◌∙◌, subst, Err}
 use Rattle.std.specs.Str.Lines.{lines}
 use Rattle.vk_cli.specs.Demangle.{IsFirstRefused}
 use Rattle.vk_cli.proofs.Lined.{names_unread}
-use Rattle.vk_cli.proofs.Reading.{some_same}
+use Rattle.vk_cli.proofs.Files.{some_same}
 use Rattle.vk_cli.proofs.names.demangle.Goals as goal
 
 pub returns-in-Err-clause-answers : goal.returns-in-Err-clause-answers

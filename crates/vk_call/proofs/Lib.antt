@@ -1,0 +1,5 @@
+mod Faults
+mod Printed
+mod Ranges
+mod Rows
+mod Texts
