@@ -93,7 +93,6 @@ complete_names bytes ns (ReadFault input) h small named reads writes = absurd (r
 complete_names bytes ns WriteFault h small named reads writes = absurd (writes refl)
 complete_names bytes ns Memory h small named reads writes = inr refl
 
--- which line an answer tells
-pub line_told : (bytes : List ℕ) (end : End) (line at : ℕ) (rule : NameRule) → IsNamesAnswer bytes end → end ≡ Refused (Unnamed line at rule) →
-    (i : ℕ) × (line ≡ i + 1) × IsFirstRefused (lines bytes) i at rule
-line_told bytes end line at rule h is = let told = subst (IsNamesAnswer bytes) is h in (line - 1, omega (arith, told.0), told.1)
+-- what holds with an answer holds of the end
+pub names_kept : (bytes : List ℕ) (result end : End) → (result ≡ end) ⊎ (result ≡ Memory) → IsNamesAnswer bytes end → IsNamesAnswer bytes result
+names_kept bytes result end h answer = elim h [ inl same ↦ subst (IsNamesAnswer bytes) (sym same) answer | inr none ↦ subst (IsNamesAnswer bytes) (sym none) tt ]

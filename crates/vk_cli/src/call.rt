@@ -188,9 +188,8 @@ pub fn vfabi<S: Store, O: Sink, E: Sink>(
         (result ≡ End.Done) ⊎ (result ≡ End.Memory) }
 
     // When those of `demangle` come.
-    ensures line_only { IsTrue (S.tells store.old) → (file bytes : List ℕ) (line at : ℕ) (rule : NameRule) →
-        Asks words.now (S.file store.old) (demangle file) bytes → result ≡ End.Refused (Refusal.Name line at rule) →
-        (i : ℕ) × (line ≡ i + 1) × IsFirstRefused (lines bytes) i at rule }
+    ensures names_only { IsTrue (S.tells store.old) → (file bytes : List ℕ) →
+        Asks words.now (S.file store.old) (demangle file) bytes → IsNamesAnswer bytes result }
     ensures line_when { IsTrue (S.tells store.old) → (file bytes : List ℕ) (i at : ℕ) (rule : NameRule) →
         Asks words.now (S.file store.old) (demangle file) bytes → (IsTooLarge bytes → ⊥) → IsFirstRefused (lines bytes) i at rule →
         IsOnceRead (End.Refused (Refusal.Name (i + 1) at rule)) result }

@@ -7,7 +7,7 @@ use Rattle.vk_cli.specs.declared.answers.End.TheVariants.{Done, Refused, Words, 
 use Rattle.vk_cli.specs.Request.{Command, command_of, demangle, input_of, lanes}
 use Rattle.vk_cli.proofs.Asked.{same_command}
 use Rattle.vk_cli.proofs.Ends.{answer_kept, complete_end, complete_kept, formed_answer, kept, once_arguments, once_faulty, once_kept, once_name, once_unformed, told_kept}
-use Rattle.vk_cli.proofs.Lined.{complete_names, once_line}
+use Rattle.vk_cli.proofs.Lined.{complete_names, names_kept, once_line}
 use Rattle.vk_cli.proofs.call.vfabi.Goals as goal
 
 pub returns-in-Ok-clause-lanes_done : goal.returns-in-Ok-clause-lanes_done
@@ -61,6 +61,11 @@ returns-in-Ok-clause-lanes_complete g c tells r bytes f asks small formed call r
     (λ input e. reads (subst (λ (k : Command). Rose (g.S.Store.reads c.args.store.now (input_of k)) (g.S.Store.reads c.answer-end.new.store (input_of k))) same (c.answer-end.ensures.read_only input e)))
     (λ e. writes (c.answer-end.ensures.write_only e)))
 
+pub returns-in-Ok-clause-names_only : goal.returns-in-Ok-clause-names_only
+returns-in-Ok-clause-names_only g c tells file bytes asks =
+    let same = same_command (command_of c.in-Ok.request) (demangle file) _ c.args.words.now c.in-Ok.ensures.found c.texts.ensures asks.command in
+    names_kept bytes c.report.result c.answer-end.result c.report.ensures.result (c.answer-end.ensures.names tells file bytes same asks.contents)
+
 pub returns-in-Ok-clause-line_when : goal.returns-in-Ok-clause-line_when
 returns-in-Ok-clause-line_when g c tells file bytes i at rule asks small first =
     let same = same_command (command_of c.in-Ok.request) (demangle file) _ c.args.words.now c.in-Ok.ensures.found c.texts.ensures asks.command in
@@ -102,6 +107,10 @@ returns-in-Err-clause-arguments_when g c tells r bytes f parameter lane asks sma
 pub returns-in-Err-clause-lanes_complete : goal.returns-in-Err-clause-lanes_complete
 returns-in-Err-clause-lanes_complete g c tells r bytes f asks small formed call reads writes =
     absurd (c.in-Err.ensures.fault.none (lanes r) (c.texts.ensures ∙ asks.command))
+
+pub returns-in-Err-clause-names_only : goal.returns-in-Err-clause-names_only
+returns-in-Err-clause-names_only g c tells file bytes asks =
+    absurd (c.in-Err.ensures.fault.none (demangle file) (c.texts.ensures ∙ asks.command))
 
 pub returns-in-Err-clause-line_when : goal.returns-in-Err-clause-line_when
 returns-in-Err-clause-line_when g c tells file bytes i at rule asks small first =
