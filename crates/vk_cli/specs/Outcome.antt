@@ -59,9 +59,17 @@ IsCallRefused f r A5 first second = ⊥
 
 -- the answer of a call that was not made
 abbrev pub IsUncalled : FormTree → Asked → End → Type 0
+IsUncalled f r Done = ⊥
+IsUncalled f r (Refused (Size input)) = ⊥
+IsUncalled f r (Refused (Unnamed line at rule)) = ⊥
+IsUncalled f r (Refused (Unfit input line directive rule)) = ⊥
+IsUncalled f r (Refused (NotYet input)) = ⊥
 IsUncalled f r (Refused (Call fault)) = IsCallRefused f r fault.rule fault.first fault.second
+IsUncalled f r (Words fault) = ⊥
+IsUncalled f r (Stopped stop) = ⊥
+IsUncalled f r (ReadFault input) = ⊥
+IsUncalled f r WriteFault = ⊥
 IsUncalled f r Memory = ⊤
-IsUncalled f r end = ⊥
 
 -- an answer that comes before the variant is called: a refusal, or want of memory
 abbrev pub IsRefusal : End → Type 0
