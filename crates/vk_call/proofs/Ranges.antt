@@ -1,7 +1,7 @@
 -- Which numbers are of a type.
-use Rattle.std.proofs.Common.{◌≡◌, ◌^◌, Bool, true, false, cond, eqb, refl, ap, sym, ◌∙◌, subst, arith, Option, Some, None, ℤ, pos, negsuc, neg_ℤ, option_and_then}
+use Rattle.std.proofs.Common.{◌≡◌, ◌^◌, ◌&&◌, Bool, true, false, cond, eqb, refl, ap, sym, ◌∙◌, subst, arith, Option, Some, None, ℤ, pos, negsuc, neg_ℤ, int_le, int_lt, option_and_then}
 use Rattle.std.proofs.lemmas.Int.{ints, to_z-of_z}
-use Rattle.std.proofs.lemmas.Bool.Decides.{nat_tests}
+use Rattle.std.proofs.lemmas.Bool.Decides.{Decides-int_eq, nat_tests}
 use Rattle.std.proofs.lemmas.Map.Views.{exact_unsigned_eq}
 use mir.Val.{SFits, of_z, to_z}
 use mir.Syntax.{w128}
@@ -9,69 +9,42 @@ use Rattle.vk_types.specs.declared.types.Ty.{Ty}
 use Rattle.vk_types.specs.declared.types.Ty.TheVariants.{I8, I16, I32, I64, U8, U16, U32, U64}
 use Rattle.vk_types.specs.Numbers.{IsInRange, wrap_number}
 use Rattle.vk_mean.proofs.Numbers.{wrap_in_range, wrap_keeps}
-use Rattle.vk_call.specs.Arguments.{if_in_range, is_between, is_in_range}
+use Rattle.vk_call.specs.Arguments.{if_in_range, is_in_range}
 
 -- what `is_in_range` says
 pub range_told : (t : Ty) (z : ℤ) → is_in_range t z ≡ true → IsInRange t z
-range_told I8 (pos n) h = grind (arith, ints, nat_tests)
-range_told I8 (negsuc n) h = grind (arith, ints, nat_tests)
-range_told I16 (pos n) h = grind (arith, ints, nat_tests)
-range_told I16 (negsuc n) h = grind (arith, ints, nat_tests)
-range_told I32 (pos n) h = grind (arith, ints, nat_tests)
-range_told I32 (negsuc n) h = grind (arith, ints, nat_tests)
-range_told I64 (pos n) h = grind (arith, ints, nat_tests)
-range_told I64 (negsuc n) h = grind (arith, ints, nat_tests)
-range_told U8 (pos n) h = grind (arith, ints, nat_tests)
-range_told U8 (negsuc n) h = cc
-range_told U16 (pos n) h = grind (arith, ints, nat_tests)
-range_told U16 (negsuc n) h = cc
-range_told U32 (pos n) h = grind (arith, ints, nat_tests)
-range_told U32 (negsuc n) h = cc
-range_told U64 (pos n) h = grind (arith, ints, nat_tests)
-range_told U64 (negsuc n) h = cc
+range_told t z h = subst (IsInRange t) ((Decides-int_eq (wrap_number t z) z).0 h) (wrap_in_range t z)
 
-pub range_held : (t : Ty) (z : ℤ) → IsInRange t z → is_in_range t z ≡ true
-range_held I8 (pos n) h = grind (arith, ints, nat_tests)
-range_held I8 (negsuc n) h = grind (arith, ints, nat_tests)
-range_held I16 (pos n) h = grind (arith, ints, nat_tests)
-range_held I16 (negsuc n) h = grind (arith, ints, nat_tests)
-range_held I32 (pos n) h = grind (arith, ints, nat_tests)
-range_held I32 (negsuc n) h = grind (arith, ints, nat_tests)
-range_held I64 (pos n) h = grind (arith, ints, nat_tests)
-range_held I64 (negsuc n) h = grind (arith, ints, nat_tests)
-range_held U8 (pos n) h = grind (arith, ints, nat_tests)
-range_held U8 (negsuc n) h = absurd (omega (arith, ints, h.0))
-range_held U16 (pos n) h = grind (arith, ints, nat_tests)
-range_held U16 (negsuc n) h = absurd (omega (arith, ints, h.0))
-range_held U32 (pos n) h = grind (arith, ints, nat_tests)
-range_held U32 (negsuc n) h = absurd (omega (arith, ints, h.0))
-range_held U64 (pos n) h = grind (arith, ints, nat_tests)
-range_held U64 (negsuc n) h = absurd (omega (arith, ints, h.0))
+range_held : (t : Ty) (z : ℤ) → IsInRange t z → is_in_range t z ≡ true
+range_held t z h = (Decides-int_eq (wrap_number t z) z).1 (wrap_keeps t z h)
 
 -- a number that has 128 bits
 abbrev pub is_wide : ℤ → Bool
-is_wide z = is_between (neg_ℤ (pos (2 ^ 127))) (pos (2 ^ 127)) z
+is_wide z = int_le (neg_ℤ (pos (2 ^ 127))) z && int_lt z (pos (2 ^ 127))
 
 abbrev pub if_wide : ℤ → Option ℤ
 if_wide z = cond (is_wide z) (Some z) None
 
+wide_of_range : (t : Ty) (z : ℤ) → IsInRange t z → is_wide z ≡ true
+wide_of_range I8 (pos n) h = grind (arith, ints, nat_tests)
+wide_of_range I8 (negsuc n) h = grind (arith, ints, nat_tests)
+wide_of_range I16 (pos n) h = grind (arith, ints, nat_tests)
+wide_of_range I16 (negsuc n) h = grind (arith, ints, nat_tests)
+wide_of_range I32 (pos n) h = grind (arith, ints, nat_tests)
+wide_of_range I32 (negsuc n) h = grind (arith, ints, nat_tests)
+wide_of_range I64 (pos n) h = grind (arith, ints, nat_tests)
+wide_of_range I64 (negsuc n) h = grind (arith, ints, nat_tests)
+wide_of_range U8 (pos n) h = grind (arith, ints, nat_tests)
+wide_of_range U8 (negsuc n) h = absurd (omega (arith, ints, h.0))
+wide_of_range U16 (pos n) h = grind (arith, ints, nat_tests)
+wide_of_range U16 (negsuc n) h = absurd (omega (arith, ints, h.0))
+wide_of_range U32 (pos n) h = grind (arith, ints, nat_tests)
+wide_of_range U32 (negsuc n) h = absurd (omega (arith, ints, h.0))
+wide_of_range U64 (pos n) h = grind (arith, ints, nat_tests)
+wide_of_range U64 (negsuc n) h = absurd (omega (arith, ints, h.0))
+
 wide_held : (t : Ty) (z : ℤ) → is_in_range t z ≡ true → is_wide z ≡ true
-wide_held I8 (pos n) h = grind (arith, ints, nat_tests)
-wide_held I8 (negsuc n) h = grind (arith, ints, nat_tests)
-wide_held I16 (pos n) h = grind (arith, ints, nat_tests)
-wide_held I16 (negsuc n) h = grind (arith, ints, nat_tests)
-wide_held I32 (pos n) h = grind (arith, ints, nat_tests)
-wide_held I32 (negsuc n) h = grind (arith, ints, nat_tests)
-wide_held I64 (pos n) h = grind (arith, ints, nat_tests)
-wide_held I64 (negsuc n) h = grind (arith, ints, nat_tests)
-wide_held U8 (pos n) h = grind (arith, ints, nat_tests)
-wide_held U8 (negsuc n) h = cc
-wide_held U16 (pos n) h = grind (arith, ints, nat_tests)
-wide_held U16 (negsuc n) h = cc
-wide_held U32 (pos n) h = grind (arith, ints, nat_tests)
-wide_held U32 (negsuc n) h = cc
-wide_held U64 (pos n) h = grind (arith, ints, nat_tests)
-wide_held U64 (negsuc n) h = cc
+wide_held t z h = wide_of_range t z (range_told t z h)
 
 narrowed : (b c : Bool) (z : ℤ) → (b ≡ true → c ≡ true) → option_and_then (λ x. cond b (Some z) None) (cond c (Some z) None) ≡ cond b (Some z) None
 narrowed true c z h = ap (λ d. option_and_then (λ x. Some z) (cond d (Some z) None)) (h refl)

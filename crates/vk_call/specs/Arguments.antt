@@ -1,10 +1,11 @@
 -- The arguments of a call of n lanes: each ARG is one value for every lane, or one value a lane, separated by commas.
-use Rattle.std.specs.Prelude.{◌≡◌, ℕ, ◌^◌, ◌==◌, ◌<◌, ◌≤◌, ◌&&◌, ◌⊎◌, Bool, List, [], ◌∷◌, cond, length, map, Option, Some, None, ℤ, pos, neg_ℤ, int_le, int_lt, slice_get, unwrap_or, slice_index_or, if◌then◌else◌}
+use Rattle.std.specs.Prelude.{◌≡◌, ℕ, ◌==◌, ◌<◌, ◌≤◌, ◌⊎◌, Bool, List, [], ◌∷◌, cond, length, map, Option, Some, None, ℤ, pos, neg_ℤ, slice_get, unwrap_or, slice_index_or, if◌then◌else◌}
+use Rattle.std.specs.Ordering.{int_eq}
 use Rattle.std.specs.Option.{option_and_then, option_flatten, option_map}
 use Rattle.std.specs.Str.{all_ascii_digits}
 use Rattle.std.specs.Str.Parse.{digits_value}
 use Rattle.vk_types.specs.declared.types.Ty.{Ty}
-use Rattle.vk_types.specs.declared.types.Ty.TheVariants.{I8, I16, I32, I64, U8, U16, U32, U64}
+use Rattle.vk_types.specs.Numbers.{wrap_number}
 use Rattle.vk_kinds.specs.declared.heads.CType.{CType}
 use Rattle.vk_code.specs.Code.{integer_of, types_of}
 
@@ -27,20 +28,9 @@ abbrev pub integer_of_text : List ℕ → Option ℤ
 integer_of_text [] = None
 integer_of_text (c ∷ cs) = if c == 45 then option_map (λ n. neg_ℤ (pos n)) (natural_of cs) else option_map pos (natural_of (c ∷ cs))
 
--- a number from `least` on, below `bound`
-abbrev pub is_between : (least bound : ℤ) → ℤ → Bool
-is_between least bound z = int_le least z && int_lt z bound
-
--- a number of the type's range
+-- the number is one of the type's range, which wrapping keeps
 abbrev pub is_in_range : Ty → ℤ → Bool
-is_in_range I8 z = is_between (neg_ℤ (pos (2 ^ 7))) (pos (2 ^ 7)) z
-is_in_range I16 z = is_between (neg_ℤ (pos (2 ^ 15))) (pos (2 ^ 15)) z
-is_in_range I32 z = is_between (neg_ℤ (pos (2 ^ 31))) (pos (2 ^ 31)) z
-is_in_range I64 z = is_between (neg_ℤ (pos (2 ^ 63))) (pos (2 ^ 63)) z
-is_in_range U8 z = is_between (pos 0) (pos (2 ^ 8)) z
-is_in_range U16 z = is_between (pos 0) (pos (2 ^ 16)) z
-is_in_range U32 z = is_between (pos 0) (pos (2 ^ 32)) z
-is_in_range U64 z = is_between (pos 0) (pos (2 ^ 64)) z
+is_in_range t z = int_eq (wrap_number t z) z
 
 -- where it is a number of the type
 abbrev pub if_in_range : Ty → ℤ → Option ℤ
