@@ -14,9 +14,10 @@ pub mod statements;
 pub use directives::{Clause, ClauseKind, Directive, Modifier};
 pub use expressions::{BinOp, Expr, ExprKind, UnOp};
 pub use items::{Function, Item, Object, ParamDecl, Unit};
-pub use names::{Memory, NameId, NameTable};
+pub use names::{NameId, NameTable};
 pub use nodes::{expr_nodes, function_nodes, stmt_nodes};
 pub use statements::{Stmt, StmtKind};
+pub use vk_memory::Memory;
 
 #[cfg(test)]
 mod tests;

@@ -5,24 +5,9 @@ ghost use Rattle.vk_ast.specs.Names.{texts_of, IsAdded, AreDistinct};
 ghost use Rattle.indexmap.specs.IndexSet.{IsUnique};
 
 use indexmap::IndexSet;
-use std::alloc::{AllocError, AllocFailed, Global};
+use std::alloc::Global;
 use std::marker::Model;
-
-/// Want of memory.
-#[derive(Clone, Copy, PartialEq, Eq, Debug)]
-pub struct Memory;
-
-impl From<AllocError> for Memory {
-    fn from(_: AllocError) -> Memory {
-        Memory
-    }
-}
-
-impl<T: Drop> From<AllocFailed<T>> for Memory {
-    fn from(_: AllocFailed<T>) -> Memory {
-        Memory
-    }
-}
+use vk_memory::Memory;
 
 /// The number of a name in its table, from 0.
 #[derive(Clone, Copy, PartialEq, Eq, Debug)]

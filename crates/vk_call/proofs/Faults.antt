@@ -6,7 +6,7 @@ use Rattle.vk_types.specs.declared.types.Word.{Word}
 use Rattle.vk_kinds.specs.declared.heads.CType.{CType}
 use Rattle.vk_code.specs.Code.{types_of}
 use Rattle.vk_call.specs.Arguments.{AreArguments, IsFaultOfValues, IsLeastFault, value_of_lane, values_at, values_of}
-use Rattle.vk_call.specs.Rows.{AreRows, IsLeastWrong}
+use Rattle.vk_call.specs.Inner.Rows.{AreRows, IsLeastWrong}
 use Rattle.vk_call.specs.declared.arguments.ArgumentFail.{ArgumentFail}
 use Rattle.vk_call.specs.declared.arguments.ArgumentFail.TheVariants.{Fault}
 use Rattle.vk_call.proofs.Rows.{rows_right}

@@ -9,10 +9,10 @@ use Rattle.vk_types.specs.Numbers.{IsCanonical}
 use Rattle.vk_kinds.specs.declared.heads.CType.{CType}
 use Rattle.vk_kinds.specs.declared.heads.CType.TheVariants.{Int}
 use Rattle.vk_code.specs.Code.{HasType, integer_of, types_of}
-use Rattle.vk_simple.specs.Machine.{AreWords, numbers_of}
-use Rattle.vk_simple.specs.Machine as machine
+use Rattle.vk_simple.specs.Inner.Machine.{AreWords, numbers_of}
+use Rattle.vk_simple.specs.Inner.Machine as machine
 use Rattle.vk_call.specs.Arguments.{IsFaultOfValues, lane_arguments, values_at, values_of}
-use Rattle.vk_call.specs.Rows.{AreRows, IsRow, column, word_in}
+use Rattle.vk_call.specs.Inner.Rows.{AreRows, IsRow, column, word_in}
 
 -- a fact about each word of a row, and about one more
 pub words_more : (P : ℕ → Word → Type 0) (row : List Word) (n : ℕ) (w : Word) → length row ≡ n → ((j : ℕ) → j < n → P j (word_in row j)) → P n w →

@@ -14,7 +14,7 @@ use mir.Syntax.{w128}
 use Rattle.vk_types.specs.declared.types.Ty.{Ty}
 use Rattle.vk_types.specs.Numbers.{IsInRange}
 use Rattle.vk_call.proofs.Ranges.{if_wide, narrow, range_told}
-use Rattle.vk_call.specs.Rows.{AreOfType}
+use Rattle.vk_call.specs.Inner.Rows.{AreOfType}
 use Rattle.vk_call.specs.Arguments.{if_in_range, integer_of_text, is_in_range, natural_of, number_in, parts, value_of_lane, values_of, with_front}
 
 own : IsNumeralModel (λ ds. all_ascii_digits ds ≡ true) (digits_value 10)

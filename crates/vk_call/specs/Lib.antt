@@ -1,3 +1,3 @@
 pub mod Arguments
 pub mod Lines
-pub mod Rows
+pub mod Inner

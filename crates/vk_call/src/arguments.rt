@@ -2,9 +2,9 @@
 
 ghost use Rattle.std.specs.Prelude.{◌≡◌, ℕ, ◌<◌, ◌≤◌, ◌^◌, List, length, map, string_bytes, IfOk, IfErr, IsErrOf};
 ghost use Rattle.std.specs.List.{AllByRecursion, range_with_len};
-ghost use Rattle.vk_simple.specs.Machine.{AreWords, numbers_of};
+ghost use Rattle.vk_simple.specs.Inner.Machine.{AreWords, numbers_of};
 ghost use Rattle.vk_call.specs.Arguments.{AreArguments, IsFaultOfValues, IsLeastFault, if_in_range, lane_arguments, number_in, value_of_lane, values_of};
-ghost use Rattle.vk_call.specs.Rows.{AreOfType, AreRows, IsLeastWrong, IsRow, column, word_in};
+ghost use Rattle.vk_call.specs.Inner.Rows.{AreOfType, AreRows, IsLeastWrong, IsRow, column, word_in};
 
 use std::alloc::{AllocError, AllocFailed, Global};
 use vk_kinds::CType;

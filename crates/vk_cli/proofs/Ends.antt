@@ -1,6 +1,6 @@
 -- What follows for an end from what holds with it.
 use Rattle.std.proofs.Common.{◌≡◌, ◌≢◌, ℕ, ◌<◌, ◌≤◌, ◌⊎◌, inl, inr, List, ap, sym, ◌∙◌, subst, refl, arith}
-use Rattle.vk_tokens.specs.declared.rules.UnitRule.{UnitRule}
+use Rattle.vk_unit_rules.specs.declared.rules.UnitRule.{UnitRule}
 use Rattle.vk_kinds.specs.declared.heads.CType.{CType}
 use Rattle.vk_simple.specs.Form.{FormTree}
 use Rattle.vk_simple.specs.Parameters.{heads_of}

@@ -3,8 +3,8 @@ use Rattle.std.proofs.Common.{◌≡◌, ℕ, inl, inr, List, Option, Some, None
 use Rattle.vk_ast.specs.declared.items.Unit.{Unit as UnitOfNames}
 use Rattle.vk_ast.specs.Units.{ItemTree, items_of}
 use Rattle.vk_tokens.specs.declared.tokens.Token.{Token}
-use Rattle.vk_tokens.specs.declared.rules.UnitRule.{UnitRule}
-use Rattle.vk_tokens.specs.declared.rules.UnitFail.{UnitFail}
+use Rattle.vk_unit_rules.specs.declared.rules.UnitRule.{UnitRule}
+use Rattle.vk_unit_rules.specs.declared.rules.UnitFail.{UnitFail}
 use Rattle.vk_lex.specs.Characters.{last_line}
 use Rattle.vk_lex.specs.Tables.{AreTokens}
 use Rattle.vk_lex.proofs.Tables.{one_list_of_tokens, one_table_of_names, tokens_or_fault}

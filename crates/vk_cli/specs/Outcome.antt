@@ -1,7 +1,7 @@
 -- When each answer of the top call comes.
 use Rattle.std.specs.Prelude.{◌≡◌, ◌≢◌, ℕ, ◌-◌, ◌<◌, ◌⊎◌, List, length, Option, Some, ⊤}
 use Rattle.std.specs.Str.Lines.{lines}
-use Rattle.vk_tokens.specs.declared.rules.UnitRule.{UnitRule}
+use Rattle.vk_unit_rules.specs.declared.rules.UnitRule.{UnitRule}
 use Rattle.vk_names.specs.Spelling.{Name, name_text}
 use Rattle.vk_simple.specs.Form.{FormTree}
 use Rattle.vk_simple.specs.Parameters.{heads_of}

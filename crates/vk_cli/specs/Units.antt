@@ -2,7 +2,7 @@
 use Rattle.std.specs.Prelude.{◌≡◌, ℕ, ◌⊎◌, List, Option, Some, None}
 use Rattle.vk_ast.specs.Units.{ItemTree}
 use Rattle.vk_tokens.specs.declared.tokens.Token.{Token}
-use Rattle.vk_tokens.specs.declared.rules.UnitRule.{UnitRule}
+use Rattle.vk_unit_rules.specs.declared.rules.UnitRule.{UnitRule}
 use Rattle.vk_lex.specs.Characters.{last_line}
 use Rattle.vk_lex.specs.Lexing.{Refuses}
 use Rattle.vk_lex.specs.Tables.{AreTokens}

@@ -3,12 +3,11 @@
 ghost use Rattle.std.specs.Prelude.{◌≡◌, IfOk, string_bytes};
 ghost use Rattle.vk_cli.specs.Answers.{message_of, status_of};
 
-use crate::labels::{name_label, unit_label};
 use std::alloc::{AllocError, Global};
 use vk_call::word_of_stop;
 use vk_names::NameRule;
-use vk_tokens::UnitRule;
 use vk_types::Stop;
+use vk_unit_rules::UnitRule;
 
 /// A rule that the words of a command line break.
 #[derive(Clone, Copy, PartialEq, Eq, Debug)]
@@ -139,7 +138,7 @@ impl Refusal {
         match self {
             Refusal::Size { .. } => format!(in alloc; "vfabi: {file}: Z1\n"),
             Refusal::Name { line, at, rule } => {
-                let label = name_label(rule);
+                let label = rule.label();
                 format!(in alloc; "vfabi: line {line}: {label} at {at}\n")
             }
             Refusal::Unit {
@@ -148,7 +147,7 @@ impl Refusal {
                 rule,
                 ..
             } => {
-                let label = unit_label(rule);
+                let label = rule.label();
                 format!(in alloc; "vfabi: {file} line {line} directive {directive}: {label}\n")
             }
             Refusal::NotYet { .. } => format!(in alloc; "vfabi: {file}: X1\n"),

@@ -6,7 +6,7 @@ ghost use Rattle.vk_types.specs.declared.types.Stop.{Stop};
 ghost use Rattle.vk_io.specs.Counts.{CountsOf, Rose, SameCounts};
 ghost use Rattle.vk_io.specs.Sink.{GrowsWithin};
 ghost use Rattle.vk_io.specs.Store.{SameFiles};
-ghost use Rattle.vk_tokens.specs.declared.rules.UnitRule.{UnitRule};
+ghost use Rattle.vk_unit_rules.specs.declared.rules.UnitRule.{UnitRule};
 ghost use Rattle.vk_names.specs.declared.rules.NameRule.{NameRule};
 ghost use Rattle.vk_names.specs.Spelling.{Name};
 ghost use Rattle.vk_simple.specs.Form.{FormTree};

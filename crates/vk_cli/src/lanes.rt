@@ -22,7 +22,7 @@ use vk_call::{ArgumentFail, call as call_lanes};
 use vk_io::{Outside, Sink, Store, put_lines};
 use vk_simple::form::{Form, form_of};
 use vk_simple::variant::vector_name;
-use vk_tokens::UnitFail;
+use vk_unit_rules::UnitFail;
 
 impl From<AllocError> for End {
     ghost use Rattle.vk_cli.specs.declared.answers.End.{End};

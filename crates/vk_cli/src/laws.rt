@@ -1,7 +1,7 @@
 // What the definitions of units mean.
 
 ghost use Rattle.std.specs.Prelude.{◌≡◌, ℕ, List, Option};
-ghost use Rattle.vk_tokens.specs.declared.rules.UnitRule.{UnitRule};
+ghost use Rattle.vk_unit_rules.specs.declared.rules.UnitRule.{UnitRule};
 ghost use Rattle.vk_simple.specs.Form.{FormTree};
 ghost use Rattle.vk_cli.specs.Units.{IsUnitFault, Says};
 

@@ -2,15 +2,15 @@
 
 ghost use Rattle.std.specs.Prelude.{◌≡◌, ◌≤◌, ℕ, length, Err, IfOk};
 ghost use Rattle.vk_ast.specs.Units.{items_of};
-ghost use Rattle.vk_tokens.specs.declared.rules.UnitRule.{UnitRule};
-ghost use Rattle.vk_tokens.specs.declared.rules.UnitFail.TheVariants.{Fault};
+ghost use Rattle.vk_unit_rules.specs.declared.rules.UnitRule.{UnitRule};
+ghost use Rattle.vk_unit_rules.specs.declared.rules.UnitFail.TheVariants.{Fault};
 ghost use Rattle.vk_cli.specs.Units.{IsUnit, IsUnitFault};
 
 use std::alloc::Global;
 use vk_ast::Unit;
 use vk_lex::lex;
 use vk_parse::parse;
-use vk_tokens::UnitFail;
+use vk_unit_rules::UnitFail;
 
 /// The tree of a unit of at most 1048576 bytes, or the rule of C1 to C7 that it breaks, with its line.
 pub fn unit_of(alloc: Global, bytes: &[u8]) -> Result<Unit, UnitFail>

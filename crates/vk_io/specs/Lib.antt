@@ -1,11 +1,9 @@
 pub mod Counts
 pub mod Store
 pub mod Sink
-pub mod Tally
-pub mod Schedule
-pub mod FileMap
 pub mod MemStore
 pub mod MemSink
 pub mod PureStore
 pub mod PureSink
 pub mod Whole
+pub mod Inner

@@ -1,7 +1,7 @@
 -- What a store in memory that fails only where a file is absent holds.
 use Rattle.std.specs.Prelude.{ℕ, List, Option}
-use Rattle.vk_io.specs.FileMap.{contents}
-use Rattle.vk_io.specs.Tally.{count_of}
+use Rattle.vk_io.specs.Inner.FileMap.{contents}
+use Rattle.vk_io.specs.Inner.Tally.{count_of}
 use Rattle.vk_io.specs.declared.pure_store.PureStore.{PureStore}
 
 -- the bytes of a name's file

@@ -1,7 +1,7 @@
 //! The files of the system as a store.
 ghost use Rattle.std.specs.Prelude.{◌≡◌, ℕ, ◌≤◌, List, false, None, IsTrue, IfOk, OnOk, length};
 ghost use Rattle.vk_io.specs.Counts.{SameCounts};
-ghost use Rattle.vk_io.specs.Tally.{count_of, has_place};
+ghost use Rattle.vk_io.specs.Inner.Tally.{count_of, has_place};
 
 use crate::outside::Outside;
 use crate::store::Store;

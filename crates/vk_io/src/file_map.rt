@@ -2,9 +2,9 @@
 ghost use Rattle.std.specs.Prelude.{◌≡◌, ◌≢◌, ℕ, ◌++◌, ◌≤◌, List, Some, None, OnOk, OnErr, length, option_map};
 ghost use Rattle.vk_io.specs.Store.{SameFiles, OtherFilesStay, GivesFrom, text_of};
 
-use crate::outside::Memory;
 use std::alloc::Global;
 use std::collections::BTreeMap;
+use vk_memory::Memory;
 
 /// The bytes of each file, by its name.
 #[derive(Drop)]
@@ -14,7 +14,7 @@ pub(crate) struct FileMap {
 }
 
 impl FileMap {
-    ghost use Rattle.vk_io.specs.FileMap.{contents};
+    ghost use Rattle.vk_io.specs.Inner.FileMap.{contents};
 
     pub(crate) fn new(alloc: Global) -> FileMap
         ensures { (q : List ℕ) → contents result q ≡ None }

@@ -24,12 +24,13 @@ pub use directory::DirStore;
 pub use lines::put_lines;
 pub use memory_sink::MemSink;
 pub use memory_store::MemStore;
-pub use outside::{Memory, Outside};
+pub use outside::Outside;
 pub use pure_sink::PureSink;
 pub use pure_store::PureStore;
 pub use sink::Sink;
 pub use store::Store;
 pub use stream::StreamSink;
+pub use vk_memory::Memory;
 pub use whole::{WholeFail, read_whole};
 pub use words::Words;
 

@@ -1,13 +1,14 @@
 //! A sink in memory, whose faults are chosen beforehand.
 ghost use Rattle.std.specs.Prelude.{◌≡◌, ℕ, ◌++◌, ◌≤◌, [], true, false, IsErr, IsErrOf, IfOk, OnOk, OnErr};
 ghost use Rattle.vk_io.specs.Counts.{Rose, next_count};
-ghost use Rattle.vk_io.specs.Schedule.{IsListed};
+ghost use Rattle.vk_io.specs.Inner.Schedule.{IsListed};
 ghost use Rattle.vk_io.specs.Sink.{Puts};
 
-use crate::outside::{Memory, Outside};
+use crate::outside::Outside;
 use crate::schedule::Schedule;
 use crate::sink::Sink;
 use std::alloc::Global;
+use vk_memory::Memory;
 
 /// A sink that keeps its bytes in memory and tells them.
 ///

@@ -1,17 +1,18 @@
 //! A store in memory, whose faults are chosen beforehand.
 ghost use Rattle.std.specs.Prelude.{◌≡◌, ◌≢◌, ℕ, ◌≤◌, ◌⊎◌, List, true, Some, None, IsNone, IsErr, IsErrOf, IfOk, OnOk, OnErr, length};
 ghost use Rattle.vk_io.specs.Counts.{Rose, CountsOf, SameCounts, next_count};
-ghost use Rattle.vk_io.specs.FileMap.{contents};
-ghost use Rattle.vk_io.specs.Schedule.{IsListed};
+ghost use Rattle.vk_io.specs.Inner.FileMap.{contents};
+ghost use Rattle.vk_io.specs.Inner.Schedule.{IsListed};
 ghost use Rattle.vk_io.specs.Store.{SameFiles, OtherFilesStay, Fills, Starts, AppendsTo};
-ghost use Rattle.vk_io.specs.Tally.{count_of};
+ghost use Rattle.vk_io.specs.Inner.Tally.{count_of};
 
 use crate::file_map::{FileMap, copy_from};
-use crate::outside::{Memory, Outside};
+use crate::outside::Outside;
 use crate::schedule::Schedule;
 use crate::store::Store;
 use crate::tally::Tally;
 use std::alloc::Global;
+use vk_memory::Memory;
 
 /// A store that keeps its files in memory and tells them.
 ///

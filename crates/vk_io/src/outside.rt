@@ -2,6 +2,7 @@
 ghost use Rattle.std.specs.Prelude.{◌≡◌};
 
 use std::alloc::{AllocError, AllocFailed};
+use vk_memory::Memory;
 
 /// Why a call of a store or a sink did not do its work.
 #[derive(Clone, Copy, Debug, PartialEq, Eq)]
@@ -11,10 +12,6 @@ pub enum Outside {
     /// There was no memory left.
     Memory,
 }
-
-/// Want of memory.
-#[derive(Clone, Copy, Debug, PartialEq, Eq)]
-pub struct Memory;
 
 impl From<Memory> for Outside {
     ghost use Rattle.vk_io.specs.declared.outside.Outside.{Outside};
@@ -43,17 +40,5 @@ impl<T: Drop> From<AllocFailed<T>> for Outside {
 
     fn from(_error: AllocFailed<T>) -> Outside {
         Outside::Memory
-    }
-}
-
-impl From<AllocError> for Memory {
-    fn from(_error: AllocError) -> Memory {
-        Memory
-    }
-}
-
-impl<T: Drop> From<AllocFailed<T>> for Memory {
-    fn from(_error: AllocFailed<T>) -> Memory {
-        Memory
     }
 }

@@ -2,9 +2,10 @@
 ghost use Rattle.std.specs.Prelude.{◌≡◌, ◌++◌, [], true, false, IsErrOf, IfOk, OnErr};
 ghost use Rattle.vk_io.specs.Sink.{Puts};
 
-use crate::outside::{Memory, Outside};
+use crate::outside::Outside;
 use crate::sink::Sink;
 use std::alloc::Global;
+use vk_memory::Memory;
 
 /// A sink that keeps its bytes in memory and tells them.
 ///

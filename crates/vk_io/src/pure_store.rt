@@ -1,15 +1,16 @@
 //! A store in memory that fails only where a file is absent.
 ghost use Rattle.std.specs.Prelude.{◌≡◌, ◌≢◌, ℕ, ◌≤◌, ◌↔◌, ◌⊎◌, List, true, Some, None, IsSome, IsNone, IsErr, IsErrOf, IfOk, OnOk, OnErr, length};
 ghost use Rattle.vk_io.specs.Counts.{Rose, CountsOf, SameCounts};
-ghost use Rattle.vk_io.specs.FileMap.{contents};
+ghost use Rattle.vk_io.specs.Inner.FileMap.{contents};
 ghost use Rattle.vk_io.specs.Store.{SameFiles, OtherFilesStay, Fills, Starts, AppendsTo};
-ghost use Rattle.vk_io.specs.Tally.{count_of};
+ghost use Rattle.vk_io.specs.Inner.Tally.{count_of};
 
 use crate::file_map::{FileMap, copy_from};
-use crate::outside::{Memory, Outside};
+use crate::outside::Outside;
 use crate::store::Store;
 use crate::tally::Tally;
 use std::alloc::Global;
+use vk_memory::Memory;
 
 /// A store that keeps its files in memory and tells them.
 ///

@@ -2,8 +2,8 @@
 ghost use Rattle.std.specs.Prelude.{◌≡◌, ◌↔◌, IsTrue, IfOk, vec_items};
 ghost use Rattle.vk_io.specs.Counts.{next_count};
 
-use crate::outside::Memory;
 use std::alloc::Global;
+use vk_memory::Memory;
 
 /// The numbers of the calls that are to fail, and how many calls there were.
 #[derive(Drop)]
@@ -13,7 +13,7 @@ pub(crate) struct Schedule {
 }
 
 impl Schedule {
-    ghost use Rattle.vk_io.specs.Schedule.{IsNextToFail};
+    ghost use Rattle.vk_io.specs.Inner.Schedule.{IsNextToFail};
 
     pub(crate) fn new(alloc: Global, failing: &[u64]) -> Result<Schedule, Memory>
         ensures failing { IfOk result (λ schedule. schedule.failing.items ≡ failing.now) }

@@ -12,7 +12,7 @@ pub(crate) struct Tally {
 }
 
 impl Tally {
-    ghost use Rattle.vk_io.specs.Tally.{count_of, has_place};
+    ghost use Rattle.vk_io.specs.Inner.Tally.{count_of, has_place};
 
     pub(crate) fn new(alloc: Global) -> Tally
         ensures { (q : List ℕ) → count_of result q ≡ 0 }

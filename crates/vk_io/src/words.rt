@@ -1,9 +1,9 @@
 //! Lists of texts.
 ghost use Rattle.std.specs.Prelude.{◌≡◌, ℕ, List, [], ◌∷◌, ◌++◌, map, OnOk, OnErr, string_bytes};
 
-use crate::outside::Memory;
 use std::alloc::Global;
 use std::marker::Model;
+use vk_memory::Memory;
 
 /// A list of texts, as the words of a command line.
 #[derive(Drop)]

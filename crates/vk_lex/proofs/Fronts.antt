@@ -3,8 +3,8 @@ use Rattle.std.proofs.Common.{◌≡◌, ℕ, true, false, List, [], ◌∷◌, 
 use Rattle.std.proofs.lemmas.Bool.{false≢true, eqb-true, eqb-false}
 use Rattle.std.specs.Char.{is_ascii_digit}
 use Rattle.vk_types.specs.declared.types.Ty.{Ty}
-use Rattle.vk_tokens.specs.declared.rules.UnitRule.{UnitRule}
-use Rattle.vk_tokens.specs.declared.rules.UnitRule.TheVariants.{C1, C2, C4}
+use Rattle.vk_unit_rules.specs.declared.rules.UnitRule.{UnitRule}
+use Rattle.vk_unit_rules.specs.declared.rules.UnitRule.TheVariants.{C1, C2, C4}
 use Rattle.vk_lex.specs.Characters.{is_word_start, is_word_byte, run, after}
 use Rattle.vk_lex.specs.Literals.{begins_floating, begins_fraction, literal}
 use Rattle.vk_tokens.specs.declared.tokens.Mark.{Mark}

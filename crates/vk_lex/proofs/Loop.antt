@@ -10,7 +10,7 @@ use Rattle.std.specs.Option.{unwrap_or}
 use Rattle.vk_tokens.specs.declared.tokens.Token.{Token}
 use Rattle.vk_tokens.specs.declared.tokens.TokenKind.{TokenKind}
 use Rattle.vk_tokens.specs.declared.tokens.TokenKind.TheVariants.{Name, Int, Sign, Simdfn, Simd, LineEnd}
-use Rattle.vk_tokens.specs.declared.rules.UnitRule.{UnitRule}
+use Rattle.vk_unit_rules.specs.declared.rules.UnitRule.{UnitRule}
 use Rattle.vk_lex.specs.Characters.{Char, numbered, joined, characters, text_of, line_of, is_word_byte, is_word_start, run, begins, begins_two}
 use Rattle.vk_tokens.specs.Names.{IsNamed}
 use Rattle.vk_lex.specs.Tokens.{Kind, word, integer, sign, simdfn, simd, line_end, Tok, tok_of, kind_of, IsIdentifier, AreIdentifiers, TellsOne, Tells, with_name}

@@ -6,8 +6,8 @@ use Rattle.std.specs.Char.{is_ascii_digit}
 use Rattle.std.specs.Option.{is_none}
 use Rattle.vk_types.specs.declared.types.Ty.{Ty}
 use Rattle.vk_tokens.specs.declared.tokens.Mark.{Mark}
-use Rattle.vk_tokens.specs.declared.rules.UnitRule.{UnitRule}
-use Rattle.vk_tokens.specs.declared.rules.UnitRule.TheVariants.{C1, C2, C4}
+use Rattle.vk_unit_rules.specs.declared.rules.UnitRule.{UnitRule}
+use Rattle.vk_unit_rules.specs.declared.rules.UnitRule.TheVariants.{C1, C2, C4}
 use Rattle.vk_lex.specs.Characters.{is_blank, is_word_start, is_word_byte, is_not_newline, run, after}
 use Rattle.vk_lex.specs.Comments.{after_comment, after_close, is_open_comment}
 use Rattle.vk_lex.specs.Headings.{Heading}

@@ -8,7 +8,7 @@ use Rattle.std.specs.Option.{unwrap_or}
 use Rattle.std.specs.Prelude.{nat_eq}
 use Rattle.vk_ast.specs.Names.{AreDistinct}
 use Rattle.vk_tokens.specs.Names.{IsNamed}
-use Rattle.vk_tokens.specs.declared.rules.UnitRule.{UnitRule}
+use Rattle.vk_unit_rules.specs.declared.rules.UnitRule.{UnitRule}
 use Rattle.vk_tokens.specs.declared.tokens.Token.{Token}
 use Rattle.vk_tokens.specs.declared.tokens.TokenKind.{TokenKind}
 use Rattle.vk_tokens.specs.declared.tokens.TokenKind.TheVariants.{Name, Int, Sign, Simdfn, Simd, LineEnd}

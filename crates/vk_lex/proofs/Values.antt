@@ -7,7 +7,7 @@ use Rattle.vk_lex.specs.declared.literals.Base.TheVariants.{Decimal, Octal, Hexa
 use Rattle.vk_lex.specs.declared.literals.Suffix.{Suffix}
 use Rattle.vk_types.specs.declared.types.Ty.{Ty}
 use Rattle.vk_types.specs.declared.types.Ty.TheVariants.{I8, I16, I32, I64, U8, U16, U32, U64}
-use Rattle.vk_tokens.specs.declared.rules.UnitRule.TheVariants.{C3}
+use Rattle.vk_unit_rules.specs.declared.rules.UnitRule.TheVariants.{C3}
 use Rattle.vk_lex.specs.Characters.{after}
 use Rattle.vk_lex.specs.Literals.{value_after, value_in, digit_value, radix, limit, first_type, types_for, typed, suffixed, suffix_of, is_digit_of, literal_in}
 

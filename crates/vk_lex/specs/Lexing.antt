@@ -5,8 +5,8 @@ use Rattle.std.specs.List.{list_any}
 use Rattle.std.specs.Cmp.Lexicographic.{pointwise}
 use Rattle.vk_types.specs.declared.types.Ty.{Ty}
 use Rattle.vk_tokens.specs.declared.tokens.Mark.{Mark}
-use Rattle.vk_tokens.specs.declared.rules.UnitRule.{UnitRule}
-use Rattle.vk_tokens.specs.declared.rules.UnitRule.TheVariants.{C1, C2, C4}
+use Rattle.vk_unit_rules.specs.declared.rules.UnitRule.{UnitRule}
+use Rattle.vk_unit_rules.specs.declared.rules.UnitRule.TheVariants.{C1, C2, C4}
 use Rattle.vk_lex.specs.Characters.{is_blank, is_word_byte, is_word_start, run, after, text_of, line_of}
 use Rattle.vk_lex.specs.Comments.{after_comment, is_open_comment}
 use Rattle.vk_lex.specs.Headings.{Heading}

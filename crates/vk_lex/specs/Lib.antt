@@ -1,4 +1,3 @@
-pub mod Answers
 pub mod Characters
 pub mod Comments
 pub mod Headings
@@ -7,3 +6,4 @@ pub mod Lexing
 pub mod Signs
 pub mod Tables
 pub mod Tokens
+pub mod Inner

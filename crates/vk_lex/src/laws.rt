@@ -1,7 +1,7 @@
 //! What holds of the tokens and the first fault of a unit.
 
 ghost use Rattle.std.specs.Prelude.{◌≡◌, ℕ, List};
-ghost use Rattle.vk_tokens.specs.declared.rules.UnitRule.{UnitRule};
+ghost use Rattle.vk_unit_rules.specs.declared.rules.UnitRule.{UnitRule};
 ghost use Rattle.vk_lex.specs.Tokens.{Tok};
 ghost use Rattle.vk_lex.specs.Lexing.{Lexes, Refuses};
 ghost use Rattle.vk_lex.specs.Tables.{AreTokens};

@@ -15,7 +15,8 @@ pub mod reader;
 pub mod signs;
 
 pub use reader::lex;
-pub use vk_tokens::{Mark, Token, TokenKind, Tokens, UnitFail, UnitRule};
+pub use vk_tokens::{Mark, Token, TokenKind, Tokens};
+pub use vk_unit_rules::{UnitFail, UnitRule};
 
 #[cfg(test)]
 mod tests;

@@ -9,8 +9,8 @@ ghost use Rattle.vk_lex.specs.Literals.{begins_digit, after_sign, begins_exponen
 ghost use Rattle.vk_lex.specs.declared.literals.Base.TheVariants.{Hexadecimal};
 
 use crate::comments::begins_with;
-use vk_tokens::UnitRule;
 use vk_types::Ty;
+use vk_unit_rules::UnitRule;
 
 /// How the digits of an integer literal are read (C17 6.4.4.1).
 #[derive(Clone, Copy, PartialEq, Eq)]

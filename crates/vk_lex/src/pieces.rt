@@ -14,8 +14,9 @@ use crate::comments::{after_comment, begins_blank, begins_with, is_open_comment}
 use crate::headings::heading;
 use crate::literals::{begins_floating, begins_fraction, literal};
 use crate::signs::sign;
-use vk_tokens::{Mark, UnitRule};
+use vk_tokens::Mark;
 use vk_types::Ty;
+use vk_unit_rules::UnitRule;
 
 /// Where a text stands in its line.
 #[derive(Clone, Copy, PartialEq, Eq)]

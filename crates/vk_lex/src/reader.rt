@@ -7,17 +7,19 @@ ghost use Rattle.vk_lex.specs.Characters.{characters as characters_in, last_line
 ghost use Rattle.vk_tokens.specs.Names.{IsNamed};
 ghost use Rattle.vk_lex.specs.Tokens.{Tok, found_kind, kind_of, tok_of, AreIdentifiers, Grows, Tells};
 ghost use Rattle.std.specs.Option.{option_map};
-ghost use Rattle.vk_tokens.specs.declared.rules.UnitFail.TheVariants.{Memory as MemoryFail};
+ghost use Rattle.vk_unit_rules.specs.declared.rules.UnitFail.TheVariants.{Memory as MemoryFail};
 ghost use Rattle.vk_lex.specs.Lexing.{Lexes, Refuses};
 ghost use Rattle.vk_lex.specs.Tables.{AreTokens};
-ghost use Rattle.vk_lex.specs.Answers.{IsTokensOrMemory, IsFaultOrMemory, IsRefusedOrMemory};
-ghost use Rattle.vk_tokens.specs.declared.rules.UnitRule.{UnitRule as UnitRuleOf};
+ghost use Rattle.vk_lex.specs.Inner.Answers.{IsTokensOrMemory, IsFaultOrMemory, IsRefusedOrMemory};
+ghost use Rattle.vk_unit_rules.specs.declared.rules.UnitRule.{UnitRule as UnitRuleOf};
 
 use crate::characters::{Characters, characters_of};
 use crate::pieces::{Found, Mode, ended, first_piece};
 use std::alloc::Global;
-use vk_ast::{Memory, NameTable};
-use vk_tokens::{Token, TokenKind, Tokens, UnitFail};
+use vk_ast::NameTable;
+use vk_memory::Memory;
+use vk_tokens::{Token, TokenKind, Tokens};
+use vk_unit_rules::UnitFail;
 
 // The line of a place, told by how many characters are left from it on.
 fn line_at(characters: &Characters, left: usize) -> u32

@@ -5,7 +5,8 @@ use crate::signs::mark_text;
 use std::alloc::{AllocError, Global};
 use std::str;
 use std::test::Fail;
-use vk_tokens::{Token, TokenKind, Tokens, UnitFail};
+use vk_tokens::{Token, TokenKind, Tokens};
+use vk_unit_rules::UnitFail;
 
 // Each token as its line and its text or value, or the fault.
 fn shown(alloc: Global, bytes: &[u8]) -> Result<String, AllocError> {

@@ -12,7 +12,7 @@ use Rattle.vk_names.specs.declared.rules.NameFault.{NameFault}
 use Rattle.vk_names.specs.declared.rules.Stop.{Stop}
 use Rattle.vk_names.specs.Spelling.{is_placed, is_name_byte, text_of}
 use Rattle.vk_names.specs.Refusal.{digit_run, Ends, Refused, NameRefused}
-use Rattle.vk_names.specs.Reading.{◌>>=◌, front_at, params_at, scalar_at, name_at}
+use Rattle.vk_names.specs.Inner.Reading.{◌>>=◌, front_at, params_at, scalar_at, name_at}
 use Rattle.vk_names.specs.Pieces.{told_at, is_ended, judges_run, run_ends, is_told}
 use Rattle.vk_names.proofs.Standing.{IsFault, EndsWith}
 use Rattle.vk_names.proofs.Exact.{text_again, name_refused}

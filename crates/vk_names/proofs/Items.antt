@@ -20,8 +20,8 @@ use Rattle.vk_names.specs.declared.steps.Item.{Item}
 use Rattle.vk_names.specs.declared.steps.Item.TheVariants.{Bare, Digits, Whole, Align}
 use Rattle.vk_names.specs.Refusal.{Ends, is_kind_letter}
 use Rattle.vk_names.specs.Pieces.{told_at, judges_run}
-use Rattle.vk_names.specs.Reading.{◌>>=◌, step_at, kind_at, align_at, param_at}
-use Rattle.vk_names.specs.Steps.{on_ok, run_from, with_byte, align_of, step_of_run, with_step, item_of, item_with, param_of}
+use Rattle.vk_names.specs.Inner.Reading.{◌>>=◌, step_at, kind_at, align_at, param_at}
+use Rattle.vk_names.specs.Inner.Steps.{on_ok, run_from, with_byte, align_of, step_of_run, with_step, item_of, item_with, param_of}
 use Rattle.vk_names.proofs.Standing.{form_at, EndsWith, ItemIs}
 use Rattle.vk_names.proofs.Numbers.{chosen, left_or}
 use Rattle.vk_names.proofs.Runs.{passes, fails, Steps, Aligns, run_begins, run_more, step_judged, align_judged}

@@ -13,7 +13,7 @@ use Rattle.vk_names.specs.declared.rules.NameRule.TheVariants.{N6}
 use Rattle.vk_names.specs.declared.rules.Stop.{Stop}
 use Rattle.vk_names.specs.Spelling.{IsPosition}
 use Rattle.vk_names.specs.Refusal.{digit_run, NoNumber, Ends}
-use Rattle.vk_names.specs.Reading.{◌>>=◌, refuse, with_digit, digits_after, digits_at, has_zero, number_at, position_at}
+use Rattle.vk_names.specs.Inner.Reading.{◌>>=◌, refuse, with_digit, digits_after, digits_at, has_zero, number_at, position_at}
 
 pub own : IsNumeralModel (AllDigits 10) (digits_value 10)
 own = numerals_by_value _ tells_digits

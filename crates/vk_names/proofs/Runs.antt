@@ -15,8 +15,8 @@ use Rattle.vk_names.specs.declared.steps.Form.{Form}
 use Rattle.vk_names.specs.declared.steps.Form.TheVariants.{Plain, Negative, Position}
 use Rattle.vk_names.specs.Refusal.{Ends}
 use Rattle.vk_names.specs.Pieces.{told_at}
-use Rattle.vk_names.specs.Reading.{◌>>=◌, refuse, digits_after, digits_at, has_zero, number_at, position_at, power_at}
-use Rattle.vk_names.specs.Steps.{on_ok, run_from, with_byte, number_of, position_of, align_of, step_of_run}
+use Rattle.vk_names.specs.Inner.Reading.{◌>>=◌, refuse, digits_after, digits_at, has_zero, number_at, position_at, power_at}
+use Rattle.vk_names.specs.Inner.Steps.{on_ok, run_from, with_byte, number_of, position_of, align_of, step_of_run}
 use Rattle.vk_names.proofs.Standing.{RunIs, form_at}
 
 pub run_begins : (place at : ℕ) → place ≡ told_at at → RunIs (run_from place) at []

@@ -19,9 +19,9 @@ use Rattle.vk_names.specs.declared.states.State.TheVariants.{Mark, AtIsa, AtMask
 use Rattle.vk_names.specs.Spelling.{mark, isa_letter, mask_letter, is_placed, is_name_byte, text_of, Spells}
 use Rattle.vk_names.specs.Refusal.{NameRefused}
 use Rattle.vk_names.specs.Pieces.{is_ended, is_due, told_at}
-use Rattle.vk_names.specs.Steps.{with_step}
+use Rattle.vk_names.specs.Inner.Steps.{with_step}
 use Rattle.vk_names.specs.Feeds.{found_name}
-use Rattle.vk_names.specs.Reading.{◌>>=◌, digits_after, digits_at, has_zero, plain_at, negative_at, argument_at, step_at, kind_at, end_at, params_at, front_at}
+use Rattle.vk_names.specs.Inner.Reading.{◌>>=◌, digits_after, digits_at, has_zero, plain_at, negative_at, argument_at, step_at, kind_at, end_at, params_at, front_at}
 
 -- the run is of these digits, of which the first stands at the place
 pub record RunIs (run : Run) (at : ℕ) (ds : List ℕ) : Type 0 where

@@ -11,7 +11,7 @@ use Rattle.vk_names.specs.declared.states.State.TheVariants.{Mark, AtIsa, AtMask
 use Rattle.vk_names.specs.declared.feed.NameFeed.{NameFeed}
 use Rattle.vk_names.specs.declared.feed.Progress.{Progress}
 use Rattle.vk_names.specs.declared.feed.Progress.TheVariants.{More}
-use Rattle.vk_names.specs.Steps.{end_on, state_on}
+use Rattle.vk_names.specs.Inner.Steps.{end_on, state_on}
 use Rattle.vk_names.specs.Feeds.{after, Stands, IsProgress, IsEnd}
 use Rattle.vk_names.proofs.Standing.{Reads, StateIs, reading, done, fault}
 use Rattle.vk_names.proofs.Feeding.{end_is, state_is, starts}

@@ -12,7 +12,7 @@ use Rattle.vk_names.specs.declared.feed.Progress.{Progress}
 use Rattle.vk_names.specs.declared.feed.Progress.TheVariants.{More}
 use Rattle.vk_names.specs.Spelling.{Name, name_in}
 use Rattle.vk_names.specs.Pieces.{IsDoneAnd, IsFaultAnd}
-use Rattle.vk_names.specs.Steps.{state_on}
+use Rattle.vk_names.specs.Inner.Steps.{state_on}
 
 -- the state and the parameters after these bytes, from the first one on
 abbrev pub after : List ℕ → State × List Param

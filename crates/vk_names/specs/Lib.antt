@@ -1,6 +1,6 @@
 pub mod Spelling
 pub mod Refusal
-pub mod Reading
 pub mod Pieces
-pub mod Steps
 pub mod Feeds
+pub mod Inner
+pub mod Labels

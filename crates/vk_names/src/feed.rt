@@ -4,7 +4,7 @@ ghost use Rattle.vk_names.specs.Spelling.{Name, text_of, name_in, Spells};
 ghost use Rattle.vk_names.specs.declared.rules.NameRule.{NameRule};
 ghost use Rattle.vk_names.specs.Refusal.{NameRefused};
 ghost use Rattle.vk_names.specs.Pieces.{told_at, is_ended, is_due, SaysRefused, IfMore, IfDone, IfFault, IsDoneAnd, IsFaultAnd};
-ghost use Rattle.vk_names.specs.Steps.{end_on, state_on};
+ghost use Rattle.vk_names.specs.Inner.Steps.{end_on, state_on};
 ghost use Rattle.vk_names.specs.Feeds.{Stands, IsRead, IsProgress, IsEnd};
 
 use crate::names::{NameHead, ReadName};

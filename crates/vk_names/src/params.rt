@@ -3,7 +3,7 @@ ghost use Rattle.std.specs.Prelude.{◌≡◌, ◌-◌, ◌≤◌, pos, negsuc, 
 ghost use Rattle.std.specs.Option.{option_map};
 ghost use Rattle.std.specs.List.{list_all, slice_get};
 ghost use Rattle.vk_names.specs.Spelling.{is_placed, is_uniform_param};
-ghost use Rattle.vk_names.specs.Reading.{Gives, step_at, kind_at, align_at, param_at, end_at, params_at, misplaced_at, positions_at};
+ghost use Rattle.vk_names.specs.Inner.Reading.{Gives, step_at, kind_at, align_at, param_at, end_at, params_at, misplaced_at, positions_at};
 
 use crate::read::{number, position};
 use crate::rules::{NameRule, Stop};

@@ -4,7 +4,7 @@ ghost use Rattle.std.specs.List.{prefix_len};
 ghost use Rattle.vk_names.specs.Spelling.{Name, text_of, is_name_byte, name_of, name_in, Spells};
 ghost use Rattle.vk_names.specs.declared.rules.NameRule.{NameRule};
 ghost use Rattle.vk_names.specs.Refusal.{NameRefused};
-ghost use Rattle.vk_names.specs.Reading.{Gives, digits_at, has_zero, number_at, position_at, byte_at, mark_at, isa_at, mask_at, len_at, front_at, scalar_at, name_at};
+ghost use Rattle.vk_names.specs.Inner.Reading.{Gives, digits_at, has_zero, number_at, position_at, byte_at, mark_at, isa_at, mask_at, len_at, front_at, scalar_at, name_at};
 
 use crate::names::{NameHead, ReadName};
 use crate::params::{params, positions};

@@ -1,5 +1,8 @@
 // The rules by which a text is refused as a name.
 
+ghost use Rattle.std.specs.Prelude.{◌≡◌};
+ghost use Rattle.vk_names.specs.Labels.{label_of_name};
+
 /// A rule of the names of vector variants.
 #[derive(Clone, Copy, PartialEq, Eq, Debug)]
 pub enum NameRule {
@@ -29,6 +32,29 @@ pub enum NameRule {
     N12,
     /// Nothing follows the name on its line. No reader of one name gives this rule.
     N13,
+}
+
+impl NameRule {
+    /// The label of the rule.
+    pub fn label(self) -> &'static str
+        ensures { result.now ≡ label_of_name self }
+    {
+        match self {
+            NameRule::N1 => "N1",
+            NameRule::N2 => "N2",
+            NameRule::N3 => "N3",
+            NameRule::N4 => "N4",
+            NameRule::N5 => "N5",
+            NameRule::N6 => "N6",
+            NameRule::N7 => "N7",
+            NameRule::N8 => "N8",
+            NameRule::N9 => "N9",
+            NameRule::N10 => "N10",
+            NameRule::N11 => "N11",
+            NameRule::N12 => "N12",
+            NameRule::N13 => "N13",
+        }
+    }
 }
 
 /// Where and by which rule bytes are refused.

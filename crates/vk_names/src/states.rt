@@ -3,7 +3,7 @@ ghost use Rattle.std.specs.Prelude.{◌≡◌, ◌+◌, ◌≤◌, length};
 ghost use Rattle.std.specs.List.{prefix_len};
 ghost use Rattle.vk_names.specs.Spelling.{is_placed};
 ghost use Rattle.vk_names.specs.Pieces.{told_at};
-ghost use Rattle.vk_names.specs.Steps.{item_with, mark_on, isa_on, mask_on, len_on, digits_on, underscore_on, next_on, scalar_on, pushed, param_on, inside_on, byte_on, end_on, answered, state_on};
+ghost use Rattle.vk_names.specs.Inner.Steps.{item_with, mark_on, isa_on, mask_on, len_on, digits_on, underscore_on, next_on, scalar_on, pushed, param_on, inside_on, byte_on, end_on, answered, state_on};
 
 use crate::params::is_placed;
 use crate::read::is_name_byte;

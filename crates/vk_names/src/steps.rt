@@ -2,9 +2,9 @@
 //
 // A place past `u32::MAX` is kept as `u32::MAX`.
 ghost use Rattle.std.specs.Prelude.{◌≡◌, ◌+◌, ◌≤◌, IfOk};
-ghost use Rattle.vk_names.specs.Reading.{with_digit};
+ghost use Rattle.vk_names.specs.Inner.Reading.{with_digit};
 ghost use Rattle.vk_names.specs.Pieces.{told_at};
-ghost use Rattle.vk_names.specs.Steps.{run_from, with_byte, number_of, position_of, align_of, step_of_run, with_step, item_of, item_with, param_of, opens_align};
+ghost use Rattle.vk_names.specs.Inner.Steps.{run_from, with_byte, number_of, position_of, align_of, step_of_run, with_step, item_of, item_with, param_of, opens_align};
 
 use crate::params::{negative_step, plain_step};
 use crate::rules::{NameFault, NameRule};

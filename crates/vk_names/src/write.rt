@@ -1,7 +1,7 @@
 // Writing a name.
 ghost use Rattle.std.specs.Prelude.{◌≡◌, ◌+◌, ◌≤◌, [], ◌∷◌, ◌++◌, length, map, decimal, Some};
 ghost use Rattle.arrayvec.specs.ArrayVec.{array_vec_len};
-ghost use Rattle.vk_names.specs.Steps.{head_len};
+ghost use Rattle.vk_names.specs.Inner.Steps.{head_len};
 ghost use Rattle.vk_names.specs.Spelling.{mark, isa_letter, mask_letter, len_text, step_text, kind_text, kind_letter, align_text, written_text, params_text, position_in, in_decimal, step_of, name_text, name_of, IsName};
 
 use crate::names::NameHead;

@@ -1,8 +1,8 @@
 -- A place of C5 stands behind each token up to which some text goes.
 use Rattle.std.proofs.Common.{◌≡◌, ℕ, ◌<◌, inl, inr, List, [], ◌∷◌, ◌++◌, length, refl, sym, ap, ◌∙◌, subst, arith, length-append}
 use Rattle.std.proofs.lemmas.Bool.{cases_lt}
-use Rattle.vk_grammar.specs.declared.symbols.Sym.{Sym}
-use Rattle.vk_grammar.specs.Texts.{Begins, IsDead, IsPlace, IsDeepPlace}
+use Rattle.vk_grammar_expr.specs.declared.symbols.Sym.{Sym}
+use Rattle.vk_grammar_expr.specs.Texts.{Begins, IsDead, IsPlace, IsDeepPlace}
 
 dead_behind : (Text : List Sym → Type 0) (y : Sym) (b r : List Sym) → IsDead Text (y ∷ b) r → IsDead (λ u. Text (y ∷ u)) b r
 dead_behind Text y b [] dead = dead

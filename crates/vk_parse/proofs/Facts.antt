@@ -6,27 +6,27 @@ use Rattle.std.specs.Global.{Vec}
 use Rattle.vk_ast.specs.declared.items.Item.{Item}
 use Rattle.vk_ast.specs.Units.{ItemTree, item_of}
 use Rattle.vk_tokens.specs.declared.tokens.Token.{Token}
-use Rattle.vk_tokens.specs.declared.rules.UnitRule.{UnitRule}
-use Rattle.vk_tokens.specs.declared.rules.UnitRule.TheVariants.{C5, C6, C7}
-use Rattle.vk_tokens.specs.declared.rules.UnitFail.TheVariants.{Fault, Memory as MemoryFail}
-use Rattle.vk_grammar.specs.declared.symbols.Sym.{Sym}
-use Rattle.vk_grammar.specs.Texts.{IsPlace, IsDeepPlace}
-use Rattle.vk_grammar.proofs.Places.{one_place, place_no_text}
-use Rattle.vk_syms.specs.declared.lines.Syms.{Syms}
-use Rattle.vk_syms.specs.Lines.{outside, begun, clauses}
-use Rattle.vk_syms.specs.Syms.{line_of}
-use Rattle.vk_words.specs.Faults.{IsC7}
-use Rattle.vk_expr.specs.declared.fail.ReadFail.{ReadFail}
-use Rattle.vk_expr.specs.declared.fail.ReadFail.TheVariants as fails
-use Rattle.vk_stmt_grammar.specs.Trees.{Clauses}
-use Rattle.vk_unit_grammar.specs.Items.{unit_levels}
-use Rattle.vk_unit_grammar.specs.Grammar.{AreItems, IsText, IsTextWithin}
-use Rattle.vk_unit_grammar.proofs.Theorem.{one_list}
-use Rattle.vk_directives.specs.Clauses.{AreClauses, no_clauses}
-use Rattle.vk_directives.specs.Directives.{line_clauses}
-use Rattle.vk_directives.proofs.Known.{all_found, all_only}
+use Rattle.vk_unit_rules.specs.declared.rules.UnitRule.{UnitRule}
+use Rattle.vk_unit_rules.specs.declared.rules.UnitRule.TheVariants.{C5, C6, C7}
+use Rattle.vk_unit_rules.specs.declared.rules.UnitFail.TheVariants.{Fault, Memory as MemoryFail}
+use Rattle.vk_grammar_expr.specs.declared.symbols.Sym.{Sym}
+use Rattle.vk_grammar_expr.specs.Texts.{IsPlace, IsDeepPlace}
+use Rattle.vk_grammar_expr.proofs.Places.{one_place, place_no_text}
+use Rattle.vk_parse_words.specs.declared.lines.Syms.{Syms}
+use Rattle.vk_parse_words.specs.Lines.{outside, begun, clauses}
+use Rattle.vk_parse_words.specs.Inner.Syms.{line_of}
+use Rattle.vk_parse_words.specs.Faults.{IsC7}
+use Rattle.vk_parse_expr.specs.declared.fail.ReadFail.{ReadFail}
+use Rattle.vk_parse_expr.specs.declared.fail.ReadFail.TheVariants as fails
+use Rattle.vk_grammar_stmt.specs.Trees.{Clauses}
+use Rattle.vk_grammar_unit.specs.Items.{unit_levels}
+use Rattle.vk_grammar_unit.specs.Grammar.{AreItems, IsText, IsTextWithin}
+use Rattle.vk_grammar_unit.proofs.Theorem.{one_list}
+use Rattle.vk_parse_directives.specs.Clauses.{AreClauses, no_clauses}
+use Rattle.vk_parse_directives.specs.Directives.{line_clauses}
+use Rattle.vk_parse_directives.proofs.Known.{all_found, all_only}
 use Rattle.vk_parse.specs.Parsing.{HasClauses, Parses, IsWithin, KeepsWords, IsFaultAt, IsFault, line_left}
-use Rattle.vk_parse.specs.Answers.{known_clauses, first_of, in_words, judged, told, IsAnswer, IsLeft}
+use Rattle.vk_parse.specs.Inner.Answers.{known_clauses, first_of, in_words, judged, told, IsAnswer, IsLeft}
 use Rattle.vk_parse.specs.declared.unit.Miss.{Miss}
 use Rattle.vk_parse.specs.declared.unit.Miss.TheVariants.{At, Memory}
 use Rattle.vk_parse.proofs.Numbers.{no_line_zero, no_line_above}

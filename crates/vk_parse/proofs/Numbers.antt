@@ -3,7 +3,7 @@ use Rattle.std.proofs.Common.{◌≡◌, ℕ, ◌+◌, ◌<◌, ◌==◌, Bool, 
 use Rattle.std.proofs.lemmas.List.Sums.{sum_by-append}
 use Rattle.std.proofs.lemmas.Bool.Decides.{nat_tests}
 use Rattle.vk_tokens.specs.declared.tokens.Token.{Token}
-use Rattle.vk_syms.specs.Lines.{is_heading, is_line_end, begun, ended, Placed, place, placed, number, in_line, sym_of, is_clause_of, clauses}
+use Rattle.vk_parse_words.specs.Lines.{is_heading, is_line_end, begun, ended, Placed, place, placed, number, in_line, sym_of, is_clause_of, clauses}
 
 begun_append : (a b : List Token) → begun (a ++ b) ≡ begun a + begun b
 begun_append a b = sum_by-append (λ t. cond (is_heading t.kind) 1 0) a b

@@ -1,2 +1,2 @@
 pub mod Parsing
-pub mod Answers
+pub mod Inner

@@ -2,16 +2,16 @@
 use Rattle.std.specs.Prelude.{◌≡◌, ℕ, ◌-◌, ◌≤◌, ◌<◌, List, [], ◌∷◌, length, drop}
 use Rattle.vk_ast.specs.Units.{ItemTree}
 use Rattle.vk_tokens.specs.declared.tokens.Token.{Token}
-use Rattle.vk_tokens.specs.declared.rules.UnitRule.{UnitRule}
-use Rattle.vk_tokens.specs.declared.rules.UnitRule.TheVariants.{C5, C6, C7}
-use Rattle.vk_grammar.specs.declared.symbols.Sym.{Sym}
-use Rattle.vk_grammar.specs.Texts.{IsPlace, IsDeepPlace}
-use Rattle.vk_stmt_grammar.specs.Trees.{Clauses}
-use Rattle.vk_unit_grammar.specs.Items.{unit_levels}
-use Rattle.vk_unit_grammar.specs.Grammar.{AreItems, IsText, IsTextWithin}
-use Rattle.vk_syms.specs.Lines.{outside, clauses as clause_tokens}
-use Rattle.vk_directives.specs.Clauses.{AreClauses}
-use Rattle.vk_words.specs.Faults.{IsC7}
+use Rattle.vk_unit_rules.specs.declared.rules.UnitRule.{UnitRule}
+use Rattle.vk_unit_rules.specs.declared.rules.UnitRule.TheVariants.{C5, C6, C7}
+use Rattle.vk_grammar_expr.specs.declared.symbols.Sym.{Sym}
+use Rattle.vk_grammar_expr.specs.Texts.{IsPlace, IsDeepPlace}
+use Rattle.vk_grammar_stmt.specs.Trees.{Clauses}
+use Rattle.vk_grammar_unit.specs.Items.{unit_levels}
+use Rattle.vk_grammar_unit.specs.Grammar.{AreItems, IsText, IsTextWithin}
+use Rattle.vk_parse_words.specs.Lines.{outside, clauses as clause_tokens}
+use Rattle.vk_parse_directives.specs.Clauses.{AreClauses}
+use Rattle.vk_parse_words.specs.Faults.{IsC7}
 
 -- the line of what is left; the end stands on the last line
 abbrev pub line_left : (last : ℕ) → List Sym → ℕ

@@ -3,7 +3,7 @@
 ghost use Rattle.std.specs.Prelude.{◌≡◌, ℕ, List};
 ghost use Rattle.vk_ast.specs.Units.{ItemTree};
 ghost use Rattle.vk_tokens.specs.declared.tokens.Token.{Token};
-ghost use Rattle.vk_tokens.specs.declared.rules.UnitRule.{UnitRule};
+ghost use Rattle.vk_unit_rules.specs.declared.rules.UnitRule.{UnitRule};
 ghost use Rattle.vk_parse.specs.Parsing.{Parses, IsWithin, KeepsWords, IsFaultAt};
 
 /// Tokens have one list of items at most, and none within the rules where there is a fault of them.

@@ -1,14 +1,14 @@
 // The directive lines of a unit, for the reader of units.
 
-ghost use Rattle.vk_parse.specs.Answers.{known_clauses};
+ghost use Rattle.vk_parse.specs.Inner.Answers.{known_clauses};
 
 use std::alloc::Global;
 use vk_ast::{Directive, NameTable};
-use vk_directives::read_directive;
-use vk_expr::ReadFail;
-use vk_grammar::Sym;
-use vk_stmt::Directives;
-use vk_syms::Syms;
+use vk_grammar_expr::Sym;
+use vk_parse_directives::read_directive;
+use vk_parse_expr::ReadFail;
+use vk_parse_stmt::Directives;
+use vk_parse_words::Syms;
 
 // The lines, and the names in them.
 #[derive(Drop)]

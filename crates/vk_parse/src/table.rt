@@ -3,7 +3,8 @@
 ghost use Rattle.std.specs.Prelude.{◌≡◌, ◌≤◌, ◌+◌, length, IfOk};
 
 use std::alloc::Global;
-use vk_ast::{Memory, NameId, NameTable};
+use vk_ast::{NameId, NameTable};
+use vk_memory::Memory;
 
 /// A table with the same names, each with the same number.
 pub fn copy_table(alloc: Global, names: &NameTable) -> Result<NameTable, Memory>

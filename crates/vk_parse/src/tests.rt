@@ -4,7 +4,7 @@ use crate::parse;
 use std::alloc::{AllocError, Global};
 use std::test::Fail;
 use vk_lex::reader::lex;
-use vk_tokens::UnitFail;
+use vk_unit_rules::UnitFail;
 
 static UNITS: [(&str, &str); 21] = [
     ("", "0"),

@@ -4,24 +4,24 @@ ghost use Rattle.std.specs.Prelude.{◌≡◌, ◌≤◌, ◌-◌, ℕ, List, Er
 ghost use Rattle.std.specs.List.{All};
 ghost use Rattle.vk_ast.specs.Units.{ItemTree, items_of};
 ghost use Rattle.vk_tokens.specs.declared.tokens.Token.{Token};
-ghost use Rattle.vk_tokens.specs.declared.rules.UnitRule.{UnitRule as UnitRuleOf};
-ghost use Rattle.vk_tokens.specs.declared.rules.UnitFail.TheVariants.{Fault, Memory as MemoryFail};
+ghost use Rattle.vk_unit_rules.specs.declared.rules.UnitRule.{UnitRule as UnitRuleOf};
+ghost use Rattle.vk_unit_rules.specs.declared.rules.UnitFail.TheVariants.{Fault, Memory as MemoryFail};
 ghost use Rattle.vk_tokens.specs.Names.{IsNamed};
-ghost use Rattle.vk_syms.specs.Lines.{outside};
-ghost use Rattle.vk_parse.specs.Answers.{judged, in_words, first_of, told, IsAnswer, IsLeft};
+ghost use Rattle.vk_parse_words.specs.Lines.{outside};
+ghost use Rattle.vk_parse.specs.Inner.Answers.{judged, in_words, first_of, told, IsAnswer, IsLeft};
 ghost use Rattle.vk_parse.specs.Parsing.{line_left, HasClauses, Parses, IsWithin, KeepsWords, IsFault};
 
 use crate::lines::Lines;
 use crate::table::copy_table;
 use std::alloc::Global;
 use vk_ast::{Item, Unit};
-use vk_expr::ReadFail;
-use vk_grammar::Sym;
-use vk_stmt::Directives;
-use vk_syms::classify;
-use vk_tokens::{Tokens, UnitFail, UnitRule};
-use vk_unit::read_unit;
-use vk_words::first_word_fault;
+use vk_grammar_expr::Sym;
+use vk_parse_expr::ReadFail;
+use vk_parse_stmt::Directives;
+use vk_parse_unit::read_unit;
+use vk_parse_words::{classify, first_word_fault};
+use vk_tokens::Tokens;
+use vk_unit_rules::{UnitFail, UnitRule};
 
 // Why there are no items.
 enum Miss {

@@ -17,8 +17,8 @@ use Rattle.vk_code.specs.Code.{types_of}
 use Rattle.vk_code.specs.Lane.{Lane}
 use Rattle.vk_mean.specs.Values.{got}
 use Rattle.vk_simple.specs.declared.emitter.Place.{Place}
-use Rattle.vk_simple.specs.Emission.{AreRegisters, HasArguments, Returns}
-use Rattle.vk_simple.specs.Machine.{AreCanonical, AreWords, lane_after, lane_of, numbers_of, word_in}
+use Rattle.vk_simple.specs.Inner.Emission.{AreRegisters, HasArguments, Returns}
+use Rattle.vk_simple.specs.Inner.Machine.{AreCanonical, AreWords, lane_after, lane_of, numbers_of, word_in}
 use Rattle.vk_simple.specs.Parameters.{argument_at, heads_of, numbers_in, place_of, returned, type_at, types_in}
 use Rattle.vk_simple.proofs.Expressions.{place_within}
 use Rattle.vk_simple.proofs.Words.{not_live, one_type}

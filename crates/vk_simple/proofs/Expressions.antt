@@ -24,7 +24,7 @@ use Rattle.vk_mean.specs.Operators.{unary_value, binary_value}
 use Rattle.vk_mean.specs.Expressions.{value_of}
 use Rattle.vk_simple.specs.declared.emitter.Emitter.{Emitter}
 use Rattle.vk_simple.specs.declared.emitter.Place.{Place}
-use Rattle.vk_simple.specs.Emission.{Agrees, Appends, AppliesOne, AppliesTwo, AreRegisters, Evaluates, Follows, Gives, Returns, HasArguments, Holds, IsPlace, number_in}
+use Rattle.vk_simple.specs.Inner.Emission.{Agrees, Appends, AppliesOne, AppliesTwo, AreRegisters, Evaluates, Follows, Gives, Returns, HasArguments, Holds, IsPlace, number_in}
 use Rattle.vk_simple.specs.Parameters.{heads_of, is_name, place_of, types_in, type_at}
 use Rattle.vk_simple.proofs.Pieces.{Kept, appends_none, appends_then, appends_weaken, has_type_grown}
 use Rattle.vk_simple.proofs.Operations.{holds_kept, inside}

@@ -13,7 +13,7 @@ use Rattle.vk_code.specs.Lane.{Lane}
 use Rattle.vk_mean.specs.Values.{Value, got, converted}
 use Rattle.vk_simple.specs.declared.emitter.Emitter.{Emitter}
 use Rattle.vk_simple.specs.declared.emitter.Place.{Place}
-use Rattle.vk_simple.specs.Emission.{Appends, AppliesOne, AppliesTwo, Gives, Holds, IsFilled, IsPlace, number_in, operates}
+use Rattle.vk_simple.specs.Inner.Emission.{Appends, AppliesOne, AppliesTwo, Gives, Holds, IsFilled, IsPlace, number_in, operates}
 use Rattle.vk_simple.proofs.Pieces.{Kept, appends_none, appends_then, appends_weaken, has_type_grown}
 
 -- a place is one of the registers, and stays one

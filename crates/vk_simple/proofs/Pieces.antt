@@ -17,7 +17,7 @@ use Rattle.vk_code.specs.Instruction.{operation_of}
 use Rattle.vk_code.specs.Code.{HasRightType, HasType, IsValidInstr, IsValidOperation}
 use Rattle.vk_code.specs.Lane.{Lane, act, act_if_some, is_live, run, step, with_reg}
 use Rattle.vk_simple.specs.declared.emitter.Emitter.{Emitter}
-use Rattle.vk_simple.specs.Emission.{Agrees, Appends, Follows}
+use Rattle.vk_simple.specs.Inner.Emission.{Agrees, Appends, Follows}
 
 -- ---- more registers
 

@@ -19,7 +19,7 @@ use Rattle.vk_mean.specs.Values.{got, converted, value_of_result}
 use Rattle.vk_mean.proofs.Numbers.{number_of-word, op1_in_range, op2_in_range, wrap_in_range, wrap_keeps}
 use Rattle.vk_simple.specs.declared.emitter.Emitter.{Emitter}
 use Rattle.vk_simple.specs.declared.emitter.Place.{Place}
-use Rattle.vk_simple.specs.Emission.{Appends, AppliesOne, AppliesTwo, Gives, Holds, IsPlace, IsPlainOperator, IsShift, Pushes, number_in, operates}
+use Rattle.vk_simple.specs.Inner.Emission.{Appends, AppliesOne, AppliesTwo, Gives, Holds, IsPlace, IsPlainOperator, IsShift, Pushes, number_in, operates}
 use Rattle.vk_simple.proofs.Pieces.{appends_none, appends_one, has_type_grown, reg_same, type_last}
 
 -- the new place's type, and that of a place before

@@ -23,7 +23,7 @@ use Rattle.vk_code.specs.Instruction.{operation_of}
 use Rattle.vk_code.specs.Code.{HasRightType, HasType, IsValidInstr, IsValidOperation, integer_of, types_of}
 use Rattle.vk_code.specs.Lane.{Lane, act, act_if_some, run, step, with_reg, with_result}
 use Rattle.vk_mean.proofs.Numbers.{word_of-number}
-use Rattle.vk_simple.specs.Machine.{AreCanonical, HasSomeType, lane_of, target_of, word_in}
+use Rattle.vk_simple.specs.Inner.Machine.{AreCanonical, HasSomeType, lane_of, target_of, word_in}
 
 pub type_inside : (regs : List CType) (r : ℕ) (t : Ty) → HasType regs r t → r < length regs
 type_inside regs r t h = slice_get_within regs r (Int t) h

@@ -12,7 +12,7 @@ use Rattle.vk_ast.specs.Statements.{StmtTree, StmtTrees, block, return_value, no
 use Rattle.vk_ast.specs.Tree.{Tree, expr_of, nodes_of}
 use Rattle.vk_ast.specs.Units.{FunctionTree, ItemTree, function, function_nodes}
 use Rattle.vk_simple.specs.declared.form.Form.{Form}
-use Rattle.vk_simple.specs.Emission.{AreRegisters}
+use Rattle.vk_simple.specs.Inner.Emission.{AreRegisters}
 use Rattle.vk_simple.specs.Parameters.{heads_of, is_simple, place_of}
 
 -- what a unit of the form says: the function's name, the types of its result and its parameters, and the expression that it returns

@@ -1,5 +1,4 @@
-pub mod Emission
 pub mod Form
-pub mod Machine
 pub mod Parameters
 pub mod Variant
+pub mod Inner

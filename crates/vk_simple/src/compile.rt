@@ -5,7 +5,7 @@ ghost use Rattle.vk_ast.specs.Tree.{expr_of, nodes_of};
 ghost use Rattle.vk_code.specs.Code.{IsValid, integer_of};
 ghost use Rattle.vk_mean.specs.Types.{type_of};
 ghost use Rattle.vk_simple.specs.declared.emitter.Place.{Place};
-ghost use Rattle.vk_simple.specs.Emission.{Appends, AreRegisters, Evaluates, IsPlace, Returns};
+ghost use Rattle.vk_simple.specs.Inner.Emission.{Appends, AreRegisters, Evaluates, IsPlace, Returns};
 ghost use Rattle.vk_simple.specs.Form.{CanCompile};
 ghost use Rattle.vk_simple.specs.Parameters.{heads_of, is_name, is_simple, place_of, types_in};
 

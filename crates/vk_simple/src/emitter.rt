@@ -10,7 +10,7 @@ ghost use Rattle.vk_code.specs.Instruction.{IsComparison};
 ghost use Rattle.vk_mean.specs.Values.{got, converted};
 ghost use Rattle.vk_mean.specs.Types.{binary_type, unary_type};
 ghost use Rattle.vk_mean.specs.Operators.{binary_value, in_type, shifted, unary_value};
-ghost use Rattle.vk_simple.specs.Emission.{Appends, AppliesOne, AppliesTwo, Gives, IsPlace, IsPlainOperator, IsShift, Pushes, operates};
+ghost use Rattle.vk_simple.specs.Inner.Emission.{Appends, AppliesOne, AppliesTwo, Gives, IsPlace, IsPlainOperator, IsShift, Pushes, operates};
 ghost use Rattle.vk_simple.specs.Parameters.{is_simple_operator};
 
 use std::alloc::{AllocError, Global};

@@ -5,7 +5,7 @@ ghost use Rattle.vk_types.specs.declared.types.Ty.{Ty};
 ghost use Rattle.vk_types.specs.Numbers.{IsCanonical};
 ghost use Rattle.vk_code.specs.Code.{HasType, IsValid, IsValidInstr, IsValidOperation, types_of};
 ghost use Rattle.vk_code.specs.Lane.{act, step, with_reg};
-ghost use Rattle.vk_simple.specs.Machine.{AreCanonical, lane_after, lane_of, target_of, word_in, HasSomeType};
+ghost use Rattle.vk_simple.specs.Inner.Machine.{AreCanonical, lane_after, lane_of, target_of, word_in, HasSomeType};
 
 use crate::compile::integer;
 use std::alloc::{AllocError, Global};

@@ -6,9 +6,9 @@ use Rattle.std.proofs.lemmas.Bool.{cases_lt}
 use Rattle.std.proofs.lemmas.List.{length-map, take-map, take_all}
 use Rattle.std.proofs.lemmas.Result.{err_from_is_err_and}
 use Rattle.vk_types.specs.declared.types.Word.{Word}
-use Rattle.vk_simple.specs.Machine.{AreWords, numbers_of}
+use Rattle.vk_simple.specs.Inner.Machine.{AreWords, numbers_of}
 use Rattle.vk_call.specs.Arguments.{IsLeastFault, lane_arguments}
-use Rattle.vk_call.specs.Rows.{AreRows, IsLeastWrong, column}
+use Rattle.vk_call.specs.Inner.Rows.{AreRows, IsLeastWrong, column}
 use Rattle.vk_call.proofs.Faults.{are_arguments, given_fault, least_at_end, least_of_first}
 use Rattle.vk_call.proofs.Rows.{all_items, all_lanes, column_numbers, column_words, map_map, same_lanes}
 use Rattle.vk_call.proofs.arguments.argument_lanes.Goals as goal

@@ -4,7 +4,7 @@ use Rattle.std.specs.Global.{Vec}
 use Rattle.std.proofs.lemmas.List.{map-append}
 use Rattle.std.proofs.lemmas.List.FromFn.{map-range_with_len_more}
 use Rattle.vk_types.specs.declared.types.Word.{Word}
-use Rattle.vk_call.specs.Rows.{column}
+use Rattle.vk_call.specs.Inner.Rows.{column}
 use Rattle.vk_call.proofs.arguments.columns_of.Goals as goal
 
 pub loop-lane-preserved : goal.loop-lane-preserved

@@ -7,7 +7,7 @@ use mir.Syntax.{w128}
 use Rattle.vk_types.specs.Numbers.{IsCanonical, number_of, wrap_number}
 use Rattle.vk_mean.proofs.Numbers.{wrap_keeps}
 use Rattle.vk_call.specs.Arguments.{value_of_lane}
-use Rattle.vk_call.specs.Rows.{word_in}
+use Rattle.vk_call.specs.Inner.Rows.{word_in}
 use Rattle.vk_call.proofs.Rows.{words_more}
 use Rattle.vk_call.proofs.Faults.{none_wrong}
 use Rattle.vk_call.proofs.arguments.row_of.Goals as goal

@@ -2,7 +2,7 @@
 use Rattle.std.proofs.Common.{◌≡◌, ℕ, ◌<◌, length, Some}
 use Rattle.vk_types.specs.Numbers.{IsCanonical, number_of}
 use Rattle.vk_call.specs.Arguments.{value_of_lane}
-use Rattle.vk_call.specs.Rows.{word_in}
+use Rattle.vk_call.specs.Inner.Rows.{word_in}
 use Rattle.vk_call.proofs.arguments.row_of.Given as goal
 
 abbrev pub invariant-loop-lane : goal.invariant-loop-lane

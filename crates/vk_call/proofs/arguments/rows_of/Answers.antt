@@ -6,7 +6,7 @@ use Rattle.vk_types.specs.declared.types.Ty.{Ty}
 use Rattle.vk_types.specs.declared.types.Word.{Word}
 use Rattle.vk_code.specs.Code.{types_of}
 use Rattle.vk_call.specs.Arguments.{IsFaultOfValues, values_at, values_of}
-use Rattle.vk_call.specs.Rows.{AreOfType, AreRows, IsLeastWrong, IsRow}
+use Rattle.vk_call.specs.Inner.Rows.{AreOfType, AreRows, IsLeastWrong, IsRow}
 use Rattle.vk_call.proofs.Rows.{rows_more, rows_none, types_at}
 use Rattle.vk_call.proofs.Faults.{bytes_at, given_fault, least_wrong}
 use Rattle.vk_call.proofs.Texts.{values_in_range}

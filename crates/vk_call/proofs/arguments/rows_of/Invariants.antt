@@ -1,6 +1,6 @@
 -- The texts before the index have their rows.
 use Rattle.std.proofs.Common.{map, string_bytes, take}
-use Rattle.vk_call.specs.Rows.{AreRows}
+use Rattle.vk_call.specs.Inner.Rows.{AreRows}
 use Rattle.vk_call.proofs.arguments.rows_of.Given as goal
 
 abbrev pub invariant-loop-number : goal.invariant-loop-number

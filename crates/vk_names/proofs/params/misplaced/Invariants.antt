@@ -1,5 +1,5 @@
 use Rattle.std.proofs.Common.{◌≡◌, drop}
-use Rattle.vk_names.specs.Reading.{misplaced_at}
+use Rattle.vk_names.specs.Inner.Reading.{misplaced_at}
 use Rattle.vk_names.proofs.params.misplaced.Given as goal
 
 abbrev pub invariant-loop-next : goal.invariant-loop-next

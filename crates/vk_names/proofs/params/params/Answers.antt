@@ -1,7 +1,7 @@
 use Rattle.std.proofs.Common.{◌≡◌, ◌++◌, ◌∷◌, [], ◌-◌, ◌<◌, ◌≤◌, suc, length, arith, Ok, Some, None, sym, ◌∙◌, length-append, eqb-true}
 use Rattle.std.proofs.lemmas.Bool.{eqb-false}
 use Rattle.std.proofs.lemmas.Result.{err_from_is_err_and}
-use Rattle.vk_names.specs.Reading.{end_at, params_at}
+use Rattle.vk_names.specs.Inner.Reading.{end_at, params_at}
 use Rattle.vk_names.proofs.Loop.{ends, stops, is_full, fails, goes_on}
 use Rattle.vk_names.proofs.params.params.Goals as goal
 

@@ -1,5 +1,5 @@
 use Rattle.std.proofs.Common.{◌≡◌, ◌≤◌, ◌-◌, [], length}
-use Rattle.vk_names.specs.Reading.{params_at}
+use Rattle.vk_names.specs.Inner.Reading.{params_at}
 use Rattle.vk_names.proofs.params.params.Given as goal
 
 abbrev pub invariant-loop-after : goal.invariant-loop-after

@@ -1,5 +1,5 @@
 use Rattle.std.proofs.Common.{◌≡◌, ◌≤◌, length}
-use Rattle.vk_names.specs.Reading.{digits_after}
+use Rattle.vk_names.specs.Inner.Reading.{digits_after}
 use Rattle.vk_names.proofs.read.digits.Given as goal
 
 abbrev pub invariant-loop-rest : goal.invariant-loop-rest

@@ -1,7 +1,7 @@
 use Rattle.std.proofs.Common.{◌≡◌, ◌-◌, ℕ, List, length, arith, ap, sym, subst, ◌∙◌}
 use Rattle.vk_names.specs.Spelling.{Spells, name_of, name_in, text_of}
 use Rattle.vk_names.specs.Refusal.{NameRefused}
-use Rattle.vk_names.specs.Reading.{name_at}
+use Rattle.vk_names.specs.Inner.Reading.{name_at}
 use Rattle.vk_names.proofs.Exact.{answers, found, reads, one_name, spelled_or_refused, one_refusal, name_refused}
 use Rattle.vk_names.proofs.Numbers.{not_both}
 use Rattle.vk_names.proofs.read.read_name.Goals as goal

@@ -1,5 +1,5 @@
 use Rattle.std.proofs.Common.{subst, sym}
-use Rattle.vk_parse.specs.Answers.{IsAnswer}
+use Rattle.vk_parse.specs.Inner.Answers.{IsAnswer}
 use Rattle.vk_parse.proofs.Facts.{answered}
 use Rattle.vk_parse.proofs.unit.items.Goals as goal
 

@@ -1,6 +1,6 @@
 use Rattle.std.proofs.Common.{◌≡◌, subst, sym, ◌∙◌}
-use Rattle.vk_tokens.specs.declared.rules.UnitFail.TheVariants.{Fault}
-use Rattle.vk_parse.specs.Answers.{IsAnswer}
+use Rattle.vk_unit_rules.specs.declared.rules.UnitFail.TheVariants.{Fault}
+use Rattle.vk_parse.specs.Inner.Answers.{IsAnswer}
 use Rattle.vk_parse.proofs.Facts.{known_are, every_in, fault_in, left_in, never_in}
 use Rattle.vk_parse.proofs.unit.parse.Goals as goal
 

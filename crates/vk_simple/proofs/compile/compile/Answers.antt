@@ -2,7 +2,7 @@
 use Rattle.std.proofs.Common.{◌≤◌, length, ap, sym, subst, refl, arith}
 use Rattle.std.proofs.lemmas.List.{length-map}
 use Rattle.vk_ast.specs.Tree.{expr_of}
-use Rattle.vk_simple.specs.Emission.{AreRegisters}
+use Rattle.vk_simple.specs.Inner.Emission.{AreRegisters}
 use Rattle.vk_simple.proofs.Expressions.{registers_grown, returns_whole, valid_whole, whole}
 use Rattle.vk_simple.proofs.compile.compile.Goals as goal
 

@@ -2,7 +2,7 @@
 use Rattle.std.proofs.Common.{◌≡◌, ◌<◌, length, sym, ◌∙◌, refl, arith, rules, Some}
 use Rattle.vk_code.specs.Code.{IsValidOperation, types_of}
 use Rattle.vk_code.specs.Instruction.{operation_of}
-use Rattle.vk_simple.specs.Machine.{lane_of, target_of}
+use Rattle.vk_simple.specs.Inner.Machine.{lane_of, target_of}
 use Rattle.vk_simple.proofs.Pieces.{step_live}
 use Rattle.vk_simple.proofs.Words.{canonical-set, lane_of-set, target_inside}
 use Rattle.vk_simple.proofs.machine.execute.Goals as goal

@@ -2,7 +2,7 @@
 use Rattle.std.proofs.Common.{◌≡◌, length, drop}
 use Rattle.vk_code.specs.Code.{types_of}
 use Rattle.vk_code.specs.Lane.{run}
-use Rattle.vk_simple.specs.Machine.{AreCanonical, lane_after, lane_of}
+use Rattle.vk_simple.specs.Inner.Machine.{AreCanonical, lane_after, lane_of}
 use Rattle.vk_simple.proofs.machine.run.Given as goal
 
 abbrev pub invariant-loop-instr : goal.invariant-loop-instr

@@ -7,8 +7,8 @@ use Rattle.vk_types.specs.declared.types.Word.{Word}
 use Rattle.vk_types.specs.Numbers.{IsCanonical, number_of}
 use Rattle.vk_ast.specs.Tree.{expr_of}
 use Rattle.vk_mean.specs.Values.{got}
-use Rattle.vk_simple.specs.Emission.{Returns}
-use Rattle.vk_simple.specs.Machine.{AreWords, numbers_of}
+use Rattle.vk_simple.specs.Inner.Emission.{Returns}
+use Rattle.vk_simple.specs.Inner.Machine.{AreWords, numbers_of}
 use Rattle.vk_simple.specs.Parameters.{heads_of, returned}
 use Rattle.vk_simple.proofs.Arguments.{all-more, all_at, canonical_arguments, lane_value, no_stop, one_more}
 use Rattle.vk_simple.proofs.results.results.Goals as goal

@@ -1,7 +1,7 @@
 use Rattle.std.proofs.Common.{arith, ◌≡◌, ℕ, List}
 use Rattle.std.proofs.lemmas.Map.Text.{text_keys}
 use Rattle.std.specs.Prelude.{Result, Ok, Err, OnErr}
-use Rattle.vk_io.specs.FileMap.{contents}
+use Rattle.vk_io.specs.Inner.FileMap.{contents}
 use Rattle.vk_io.proofs.file_map.FileMap.append.Goals as goal
 
 -- what holds anyway holds where the result is an error

@@ -1,4 +1,0 @@
-use Rattle.vk_expr.proofs.reader.+climb.Given as goal
-
-abbrev pub decreases-climb : goal.decreases-climb
-decreases-climb l = l.n

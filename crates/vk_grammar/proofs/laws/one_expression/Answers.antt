@@ -1,6 +1,0 @@
-use Rattle.vk_grammar.proofs.Places.{one_place, place_no_text}
-use Rattle.vk_grammar.proofs.Theorem.{one_tree}
-use Rattle.vk_grammar.proofs.laws.one_expression.Goals as goal
-
-pub returns : goal.returns
-returns c = record { tree = one_tree; place = λ ts n m p q. one_place p q; not_both = λ ts n p t. place_no_text p t }

@@ -1,6 +1,0 @@
-pub mod Symbols
-pub mod Types
-pub mod Grammar
-pub mod Texts
-pub mod Parser
-pub mod Reading

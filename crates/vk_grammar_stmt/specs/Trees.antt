@@ -1,0 +1,59 @@
+-- Trees of statements as the grammar makes them, and what it asks of them.
+use Rattle.std.specs.Prelude.{ℕ, suc, max, Bool, true, false, List, [], ◌∷◌, ◌++◌}
+use Rattle.vk_types.specs.declared.types.Ty.TheVariants.{I32}
+use Rattle.vk_ast.specs.Tree.{Tree}
+use Rattle.vk_ast.specs.Statements.{StmtTree, StmtTrees}
+use Rattle.vk_ast.specs.Directives.{ClauseTree, DirectiveTree}
+use Rattle.vk_grammar_expr.specs.declared.symbols.Sym.{Sym}
+
+-- the clauses of each directive, by its number
+abbrev pub Clauses : Type 0
+Clauses = ℕ → List ClauseTree
+
+-- the directive of a line, by the token that stands for it
+abbrev pub directive_at : Clauses → Sym → ℕ → DirectiveTree
+directive_at clauses t n = record { line = t.line; token = t.at; number = n; clauses = clauses n }
+
+abbrev pub stmts_in : List StmtTree → StmtTrees
+stmts_in [] = StmtTrees.no_stmts
+stmts_in (s ∷ rest) = StmtTrees.more_stmts s (stmts_in rest)
+
+-- lists one after the other
+abbrev pub joined : List (List StmtTree) → List StmtTree
+joined [] = []
+joined (list ∷ rest) = list ++ joined rest
+
+-- The statement that several are where one is wanted: a block of them that begins at line `l` and token `k`.
+abbrev pub single : (l k : ℕ) → List StmtTree → StmtTree
+single l k [] = StmtTree.block l k StmtTrees.no_stmts
+single l k (s ∷ []) = s
+single l k (s ∷ (next ∷ rest)) = StmtTree.block l k (stmts_in (s ∷ (next ∷ rest)))
+
+-- the 1 that `++` and `--` add or take away
+abbrev pub unit_at : Sym → Tree
+unit_at t = Tree.int t.line t.at I32 1
+
+-- Whether an `else` behind the statement would belong to an `if` at its end.
+abbrev pub is_open : StmtTree → Bool
+is_open (StmtTree.if_only l k c first) = true
+is_open (StmtTree.if_else l k c first second) = is_open second
+is_open (StmtTree.while_loop l k c body) = is_open body
+is_open (StmtTree.for_loop l k first c third body) = is_open body
+is_open (StmtTree.simd l k d body) = is_open body
+is_open _ = false
+
+-- How many statements stand one in the other, at most, the outermost counted.
+abbrev mutual
+  pub levels_of : StmtTree → ℕ
+  levels_of (StmtTree.block l k list) = suc (all_levels list)
+  levels_of (StmtTree.if_only l k c first) = suc (levels_of first)
+  levels_of (StmtTree.if_else l k c first second) = suc (max (levels_of first) (levels_of second))
+  levels_of (StmtTree.while_loop l k c body) = suc (levels_of body)
+  levels_of (StmtTree.do_loop l k body c) = suc (levels_of body)
+  levels_of (StmtTree.for_loop l k first c third body) = suc (max (levels_of first) (max (levels_of third) (levels_of body)))
+  levels_of (StmtTree.simd l k d body) = suc (levels_of body)
+  levels_of _ = 1
+
+  pub all_levels : StmtTrees → ℕ
+  all_levels StmtTrees.no_stmts = 0
+  all_levels (StmtTrees.more_stmts s list) = max (levels_of s) (all_levels list)

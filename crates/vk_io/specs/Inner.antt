@@ -1,0 +1,4 @@
+-- Definitions on which no public contract's meaning rests: what the code's own functions tell each other.
+pub mod Tally
+pub mod Schedule
+pub mod FileMap

@@ -1,0 +1,12 @@
+use Rattle.std.proofs.Common.{sym, ◌∙◌}
+use Rattle.vk_parse_directives.proofs.Conds.{cond_found, cond_none}
+use Rattle.vk_parse_directives.proofs.clauses.cond.Goals as goal
+
+pub returns-in-Ok : goal.returns-in-Ok
+returns-in-Ok c = cond_found c.args.syms.now _ _ c.in-Ok.ensures.found c.in-Ok.ensures.within
+
+pub returns-in-Err-Syntax : goal.returns-in-Err-Syntax
+returns-in-Err-Syntax c = cond_none c.args.syms.now (λ e h s low. let memory = sym c.in-Err-Syntax.field-0-is ∙ c.in-Err-Syntax.ensures.only e h s low in cc)
+
+pub returns-in-Err-Deep : goal.returns-in-Err-Deep
+returns-in-Err-Deep c = cond_none c.args.syms.now (λ e h s low. let memory = sym c.in-Err-Deep.field-0-is ∙ c.in-Err-Deep.ensures.only e h s low in cc)

@@ -1,0 +1,5 @@
+pub mod Words
+pub mod Cuts
+pub mod Clauses
+pub mod Directives
+pub mod Inner

@@ -1,2 +1,0 @@
-mod Split
-mod Known

@@ -1,6 +1,0 @@
-use Rattle.vk_syms.specs.Syms.{rows}
-use Rattle.vk_syms.proofs.Split.{Splitting}
-use Rattle.vk_syms.proofs.lines.classify.Given as goal
-
-abbrev pub invariant-loop-at : goal.invariant-loop-at
-invariant-loop-at l = Splitting l.tokens.names l.tokens.list.items l.at l.syms.outside.items (rows l.syms.lines.items) l.ended

@@ -1,6 +1,0 @@
-use Rattle.vk_grammar.proofs.Places.{one_place, place_no_text}
-use Rattle.vk_unit_grammar.proofs.Theorem.{one_list}
-use Rattle.vk_unit_grammar.proofs.laws.one_unit.Goals as goal
-
-pub returns : goal.returns
-returns c = record { list = one_list; place = λ clauses ts n m p q. one_place p q; not_both = λ clauses ts n p t. place_no_text p t }
