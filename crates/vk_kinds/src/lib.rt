@@ -5,6 +5,8 @@
 
 pub mod heads;
 pub mod kinds;
+pub mod limits;
 
 pub use heads::{CType, Head, Types};
 pub use kinds::{Branch, Isa, Kind, Len, Length, Lengths, Param, Params, Signature, Step, Target};
+pub use limits::{MAX_IDENTIFIER_BYTES, MAX_PARAMETERS};
