@@ -4,7 +4,7 @@ use crate::expressions::Expr;
 use crate::names::NameId;
 
 /// A line `#pragma omp declare simd` or `#pragma omp simd`, with its number in the unit, counted from 1 over both kinds.
-#[derive(Drop)]
+#[derive(Drop, PartialEq, Eq, Debug)]
 pub struct Directive {
     pub line: u32,
     pub token: u32,
@@ -13,7 +13,7 @@ pub struct Directive {
 }
 
 /// A clause, with the line and the number of its first token. A directive may go over several lines.
-#[derive(Drop)]
+#[derive(Drop, PartialEq, Eq, Debug)]
 pub struct Clause {
     pub line: u32,
     pub token: u32,
@@ -31,7 +31,7 @@ pub struct PlacedName {
 }
 
 /// What a clause says.
-#[derive(Drop)]
+#[derive(Drop, PartialEq, Eq, Debug)]
 pub enum ClauseKind {
     Simdlen(Expr),
     Uniform(Vec<PlacedName>),
