@@ -40,7 +40,16 @@ is_open (StmtTree.if_else l k c first second) = is_open second
 is_open (StmtTree.while_loop l k c body) = is_open body
 is_open (StmtTree.for_loop l k first c third body) = is_open body
 is_open (StmtTree.simd l k d body) = is_open body
-is_open _ = false
+is_open (StmtTree.empty l k) = false
+is_open (StmtTree.block l k list) = false
+is_open (StmtTree.local l k t fixed id init) = false
+is_open (StmtTree.assign l k op place operand) = false
+is_open (StmtTree.value l k e) = false
+is_open (StmtTree.do_loop l k body c) = false
+is_open (StmtTree.break_loop l k) = false
+is_open (StmtTree.continue_loop l k) = false
+is_open (StmtTree.return_value l k e) = false
+is_open (StmtTree.lost l k d) = false
 
 -- How many statements stand one in the other, at most, the outermost counted.
 abbrev mutual
@@ -52,7 +61,14 @@ abbrev mutual
   levels_of (StmtTree.do_loop l k body c) = suc (levels_of body)
   levels_of (StmtTree.for_loop l k first c third body) = suc (max (levels_of first) (max (levels_of third) (levels_of body)))
   levels_of (StmtTree.simd l k d body) = suc (levels_of body)
-  levels_of _ = 1
+  levels_of (StmtTree.empty l k) = 1
+  levels_of (StmtTree.local l k t fixed id init) = 1
+  levels_of (StmtTree.assign l k op place operand) = 1
+  levels_of (StmtTree.value l k e) = 1
+  levels_of (StmtTree.break_loop l k) = 1
+  levels_of (StmtTree.continue_loop l k) = 1
+  levels_of (StmtTree.return_value l k e) = 1
+  levels_of (StmtTree.lost l k d) = 1
 
   pub all_levels : StmtTrees → ℕ
   all_levels StmtTrees.no_stmts = 0

@@ -6,12 +6,11 @@ use Rattle.vk_unit_rules.specs.declared.rules.UnitRule.{UnitRule}
 use Rattle.vk_unit_rules.specs.declared.rules.UnitRule.TheVariants.{C5, C6, C7}
 use Rattle.vk_grammar_expr.specs.declared.symbols.Sym.{Sym}
 use Rattle.vk_grammar_expr.specs.Texts.{IsPlace, IsDeepPlace}
-use Rattle.vk_grammar_stmt.specs.Trees.{Clauses}
 use Rattle.vk_grammar_unit.specs.Items.{unit_levels}
 use Rattle.vk_grammar_unit.specs.Grammar.{AreItems, IsText, IsTextWithin}
-use Rattle.vk_parse_words.specs.Lines.{outside, clauses as clause_tokens}
-use Rattle.vk_parse_directives.specs.Clauses.{AreClauses}
+use Rattle.vk_parse_words.specs.Lines.{outside}
 use Rattle.vk_parse_words.specs.Faults.{IsC7}
+use Rattle.vk_parse_directives.specs.Directives.{unit_clauses}
 
 -- the line of what is left; the end stands on the last line
 abbrev pub line_left : (last : ℕ) → List Sym → ℕ
@@ -19,15 +18,9 @@ line_left last [] = last
 line_left last (t ∷ rest) = t.line
 
 module _ (names : List (List ℕ)) (ts : List Token) where
-  -- these are the clauses of each directive line, by its number
-  abbrev pub HasClauses : Clauses → Type 0
-  HasClauses clauses = (n : ℕ) → AreClauses names (clauses n) (clause_tokens names ts n)
-
   -- the tokens are those of a unit with these items, whose expressions have at most this height
   pub record Parses (items : List ItemTree) (height : ℕ) : Type 0 where
-    pub clauses : Clauses
-    pub are : HasClauses clauses
-    pub items_are : AreItems clauses items height (outside names ts)
+    pub items_are : AreItems (unit_clauses names ts) items height (outside names ts)
 
   -- C6 is kept: expressions are at most 64 deep, and statements stand inside at most 64 statements
   pub record IsWithin (items : List ItemTree) (height : ℕ) : Type 0 where
@@ -42,10 +35,10 @@ module _ (names : List (List ℕ)) (ts : List Token) where
   -- C7 is at or before them, C7 only where no C5 is before it; a C6 is before each C5. So the fault told is the first by place,
   -- C7 where it is at the place of another; but where the first is a C6, a later C6, the C5 or the C7 may be told instead.
   abbrev pub IsFaultAt : UnitRule → ℕ → Type 0
-  IsFaultAt C5 n = ((clauses : Clauses) → HasClauses clauses → IsPlace (IsText clauses) (outside names ts) n) × ((m : ℕ) → IsC7 (outside names ts) m → m < n)
-  IsFaultAt C6 n = ((clauses : Clauses) → HasClauses clauses → IsDeepPlace (IsText clauses) (IsTextWithin clauses 64 65) (outside names ts) n)
+  IsFaultAt C5 n = IsPlace (IsText (unit_clauses names ts)) (outside names ts) n × ((m : ℕ) → IsC7 (outside names ts) m → m < n)
+  IsFaultAt C6 n = IsDeepPlace (IsText (unit_clauses names ts)) (IsTextWithin (unit_clauses names ts) 64 65) (outside names ts) n
       × ((m : ℕ) → IsC7 (outside names ts) m → m < n)
-  IsFaultAt C7 n = IsC7 (outside names ts) n × ((clauses : Clauses) (m : ℕ) → HasClauses clauses → IsPlace (IsText clauses) (outside names ts) m → m ≤ n)
+  IsFaultAt C7 n = IsC7 (outside names ts) n × ((m : ℕ) → IsPlace (IsText (unit_clauses names ts)) (outside names ts) m → m ≤ n)
   IsFaultAt rule n = ⊥
 
   -- the line of a place

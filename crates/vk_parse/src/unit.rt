@@ -9,7 +9,8 @@ ghost use Rattle.vk_unit_rules.specs.declared.rules.UnitFail.TheVariants.{Fault,
 ghost use Rattle.vk_tokens.specs.Names.{IsNamed};
 ghost use Rattle.vk_parse_words.specs.Lines.{outside};
 ghost use Rattle.vk_parse.specs.Inner.Answers.{judged, in_words, first_of, told, IsAnswer, IsLeft};
-ghost use Rattle.vk_parse.specs.Parsing.{line_left, HasClauses, Parses, IsWithin, KeepsWords, IsFault};
+ghost use Rattle.vk_parse_directives.specs.Directives.{unit_clauses};
+ghost use Rattle.vk_parse.specs.Parsing.{line_left, Parses, IsWithin, KeepsWords, IsFault};
 
 use crate::lines::Lines;
 use crate::table::copy_table;
@@ -73,7 +74,7 @@ fn judged(read: Result<Vec<Item>, ReadFail>, words: Option<usize>) -> Result<Vec
 
 // The items of the tokens outside directive lines.
 fn items<D: Directives>(alloc: Global, directives: &D, syms: &[Sym]) -> Result<Vec<Item>, Miss>
-    ensures { (names : List (List ℕ)) (ts : List Token) → syms.now ≡ outside names ts → HasClauses names ts (D.clauses directives.now) → IsAnswer names ts result }
+    ensures { (names : List (List ℕ)) (ts : List Token) → syms.now ≡ outside names ts → D.clauses directives.now ≡ unit_clauses names ts → IsAnswer names ts result }
 {
     judged(read_unit(alloc, directives, syms), first_word_fault(syms))
 }

@@ -16,7 +16,10 @@ is_any_word (kind.Name id) = true
 is_any_word (kind.Keyword k) = true
 is_any_word (kind.TypeWord w) = true
 is_any_word kind.LeftOut = true
-is_any_word _ = false
+is_any_word (kind.Int t value) = false
+is_any_word (kind.Sign m) = false
+is_any_word (kind.Simd n) = false
+is_any_word (kind.Simdfn n) = false
 
 abbrev pub is_open : Sym → Bool
 is_open t = is_sign mark.OpenParen (Some t.kind)

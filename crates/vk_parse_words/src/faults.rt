@@ -6,9 +6,9 @@ ghost use Rattle.vk_grammar_expr.specs.Symbols.{is_type_part};
 ghost use Rattle.vk_grammar_expr.specs.declared.symbols.Sym.{Sym as SymOf};
 ghost use Rattle.vk_parse_words.specs.Faults.{run_of, ends_in_words, goes_on, is_no_type, is_front_fault, is_fault, IsC7};
 
+use vk_grammar_expr::{Keyword, Sym, SymKind};
 use vk_parse_expr::signs::is_type_part;
 use vk_parse_expr::words::type_of;
-use vk_grammar_expr::{Keyword, Sym, SymKind};
 
 // How many of the first tokens are words of types or `const`.
 fn part_count(syms: &[Sym]) -> usize
