@@ -18,10 +18,18 @@ fn push_masks(lengths: &mut Lengths, isa: Isa, len: Len, branch: Branch)
     ensures len { array_vec_len lengths.new ≤ array_vec_len lengths.old + 2 }
 {
     if isa != Isa::S && branch != Branch::Inside {
-        lengths.push(Length { isa, masked: false, len });
+        lengths.push(Length {
+            isa,
+            masked: false,
+            len,
+        });
     }
     if isa == Isa::S || branch != Branch::Outside {
-        lengths.push(Length { isa, masked: true, len });
+        lengths.push(Length {
+            isa,
+            masked: true,
+            len,
+        });
     }
 }
 
@@ -112,7 +120,11 @@ fn fixed_at(lanes: u16, wds: u32, vl: u32) -> Option<u16>
     requires { IsTrue (is_size wds) }
     ensures { result ≡ lanes_at S (Fixed lanes) wds vl }
 {
-    if u32::from(lanes) * wds * 8 == vl { Some(lanes) } else { None }
+    if u32::from(lanes) * wds * 8 == vl {
+        Some(lanes)
+    } else {
+        None
+    }
 }
 
 /// Whether the lanes of a directive's `simdlen` fit SVE: those of the widest data size have 128 to 2048 bits. Without a `simdlen`

@@ -6,6 +6,7 @@
 pub mod heads;
 pub mod kinds;
 pub mod lanes;
+pub mod laws;
 pub mod sizes;
 
 pub use heads::{CType, Head, Types};

@@ -1,7 +1,6 @@
 // The sizes by which the vector function ABIs count lanes.
 
-ghost use Rattle.std.specs.Prelude.{◌≡◌, ◌+◌, ◌≤◌, ◌++◌, true, length, IsTrue};
-ghost use Rattle.std.specs.List.{list_all};
+ghost use Rattle.std.specs.Prelude.{◌≡◌, ◌+◌, ◌≤◌, ◌++◌, length, IsTrue};
 ghost use Rattle.arrayvec.specs.ArrayVec.{array_vec_len};
 ghost use Rattle.vk_kinds.specs.Sizes.{all_sizes, bytes_of, cdt, first_vector, greatest_of, head_types, is_size, lane_size, lane_sizes, least_of, nds, result_sizes, signature_tree, size_of, wds};
 
@@ -67,7 +66,6 @@ fn push_sizes(sizes: &mut Sizes, types: &[CType], params: &[Param])
     requires { array_vec_len sizes.old + length types.now ≤ 65 }
     ensures items { sizes.new.items ≡ sizes.old.items ++ lane_sizes types.now params.now }
     ensures len { array_vec_len sizes.new ≤ array_vec_len sizes.old + length types.now }
-    ensures each { list_all is_size sizes.old.items ≡ true → list_all is_size sizes.new.items ≡ true }
 {
     let [ty, types @ ..] = types else {
         return;
@@ -80,10 +78,8 @@ fn push_sizes(sizes: &mut Sizes, types: &[CType], params: &[Param])
 }
 
 /// The lane sizes of the parameters and of the result.
-#[tactic(auto, using(std::proofs::lemmas::Grind::common_steps))]
 fn all_sizes(h: &Head, s: &Signature) -> Sizes
-    ensures items { result.items ≡ all_sizes (head_types h.now) (signature_tree s.now) }
-    ensures each { list_all is_size result.items ≡ true }
+    ensures { result.items ≡ all_sizes (head_types h.now) (signature_tree s.now) }
 {
     let mut sizes = Sizes::new();
     push_sizes(&mut sizes, h.params.as_slice(), s.params.as_slice());
@@ -97,8 +93,7 @@ fn all_sizes(h: &Head, s: &Signature) -> Sizes
 
 /// The least of some sizes.
 fn least_of(sizes: &[u32]) -> u32
-    ensures value { result ≡ least_of sizes.now }
-    ensures size { list_all is_size sizes.now ≡ true → IsTrue (is_size result) }
+    ensures { result ≡ least_of sizes.now }
 {
     match sizes {
         [] => bytes_of(Ty::I32),
@@ -109,8 +104,7 @@ fn least_of(sizes: &[u32]) -> u32
 
 /// The greatest of some sizes.
 fn greatest_of(sizes: &[u32]) -> u32
-    ensures value { result ≡ greatest_of sizes.now }
-    ensures size { list_all is_size sizes.now ≡ true → IsTrue (is_size result) }
+    ensures { result ≡ greatest_of sizes.now }
 {
     match sizes {
         [] => bytes_of(Ty::I32),
