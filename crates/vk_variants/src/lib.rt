@@ -4,4 +4,4 @@
 pub mod laws;
 pub mod list;
 
-pub use list::NameList;
+pub use list::{NameList, function_names};

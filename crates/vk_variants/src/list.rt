@@ -1,5 +1,5 @@
 // Lists of names.
-ghost use Rattle.std.specs.Prelude.{◌≡◌, ℕ, ◌<◌, List, [], ◌∷◌, ◌++◌, length, map, take, slice_get, Some, OnOk, OnErr};
+ghost use Rattle.std.specs.Prelude.{◌≡◌, ℕ, ◌<◌, List, [], ◌∷◌, ◌++◌, All, length, map, take, slice_get, Some, IfOk, OnOk, OnErr};
 ghost use Rattle.vk_kinds.specs.Sizes.{head_types, signature_tree};
 ghost use Rattle.vk_names.specs.Spelling.{IsName, IsScalar, name_text};
 ghost use Rattle.vk_variants.specs.Directives.{IsNamed, directive_names, function_names, name_with};
@@ -78,4 +78,55 @@ impl NameList {
     {
         self.names.truncate(len);
     }
+
+    /// Adds the names that a directive gives a function: one for each of its variants, by letter, length and mask.
+    ///
+    /// `s` has one parameter for each of `h`, and what it says is within the ranges of names. For want of memory the list stays
+    /// as it was. The names are those of the vector function ABIs of x86-64 ("Vector Function Name Mangling") and of AArch64.
+    pub fn add(
+        &mut self,
+        target: Target,
+        scalar: &[u8],
+        h: &Head,
+        s: &Signature,
+    ) -> Result<(), Memory>
+        requires count { length h.now.params.items ≡ length s.now.params.items }
+        requires in_range { IsNamed (signature_tree s.now) }
+        requires scalar { IsScalar scalar.now }
+        ensures ok { OnOk result (self.new ≡ self.old ++ directive_names target scalar.now (head_types h.now) (signature_tree s.now)) }
+        ensures err { OnErr result (self.new ≡ self.old) }
+    {
+        let before = self.len();
+        let variants = lengths(target, h, s);
+        let fronts = variants.as_slice();
+        for front in fronts {
+            if self.push(scalar, &s.params, *front).is_err() {
+                self.cut(before);
+                return Err(Memory);
+            }
+        }
+        Ok(())
+    }
+}
+
+/// The names that the directives of a function give it, in their order, each as `NameList::add` says.
+///
+/// Each of `signatures` has one parameter for each of `h`, and what it says is within the ranges of names.
+pub fn function_names(
+    alloc: Global,
+    target: Target,
+    scalar: &[u8],
+    h: &Head,
+    signatures: &[Signature],
+) -> Result<NameList, Memory>
+    requires count { All (λ s. length h.now.params.items ≡ length s.params.items) signatures.now }
+    requires in_range { All (λ s. IsNamed (signature_tree s)) signatures.now }
+    requires scalar { IsScalar scalar.now }
+    ensures { IfOk result (λ list. list ≡ function_names target scalar.now (head_types h.now) (map signature_tree signatures.now)) }
+{
+    let mut list = NameList::new(alloc);
+    for s in signatures {
+        list.add(target, scalar, h, s)?;
+    }
+    Ok(list)
 }
