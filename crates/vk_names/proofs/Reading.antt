@@ -1,4 +1,5 @@
--- Reading a text from left to right, with the first refusal that is met.
+-- Reading a whole text from left to right, with the first refusal that is met: the lists between the two relations on bytes,
+-- `Spells` and `NameRefused`, and the states of a feed. No contract cites it.
 use Rattle.std.specs.Prelude.{◌≡◌, ℕ, zero, suc, ◌+◌, ◌-◌, ◌*◌, ◌==◌, nat_lt, min, Bool, true, false, ◌&&◌, ◌||◌, List, [], ◌∷◌, ◌++◌, length, Option, Some, None, Result, Ok, Err, pos, negsuc, if◌then◌else◌}
 use Rattle.std.specs.Char.{is_ascii_digit}
 use Rattle.std.specs.Int.{is_power_of_two}
@@ -15,29 +16,25 @@ use Rattle.vk_kinds.specs.declared.kinds.Length.{Length}
 use Rattle.vk_kinds.specs.declared.kinds.Param.{Param}
 use Rattle.vk_names.specs.declared.rules.NameRule.{NameRule}
 use Rattle.vk_names.specs.declared.rules.NameRule.TheVariants.{N1, N2, N3, N4, N5, N6, N7, N8, N9, N10, N11, N12}
-use Rattle.vk_names.specs.declared.rules.Stop.{Stop}
 use Rattle.vk_names.specs.Spelling.{Name, is_placed}
 use Rattle.vk_names.specs.Refusal.{is_kind_letter}
+use Rattle.vk_names.specs.Inner.Steps.{with_digit, is_s}
+
+-- a refusal: how many bytes of the text are left at its place, and the rule
+pub record Stop : Type 0 where
+  pub left : ℕ
+  pub rule : NameRule
 
 infixl 10 ◌>>=◌
 abbrev pub ◌>>=◌ : {A B : Type 0} → Result A Stop → (A → Result B Stop) → Result B Stop
 (Ok x) >>= f = f x
 (Err e) >>= f = Err e
 
--- What a function returned, seen by view, is what reading gives.
-abbrev pub Gives : {X Y : Type 0} → (X → Y) → Result X Stop → Result Y Stop → Type 0
-Gives view (Ok x) read = read ≡ Ok (view x)
-Gives view (Err e) read = read ≡ Err e
-
 -- refused where the bytes begin
 abbrev pub refuse : {X : Type 0} → NameRule → List ℕ → Result X Stop
 refuse rule bytes = Err (record { left = length bytes; rule = rule })
 
 -- ---- numbers
-
--- the number goes on with a digit, and stays at 4294967295 once it is there
-abbrev pub with_digit : ℕ → ℕ → ℕ
-with_digit n b = min (n * 10 + (b - 48)) 4294967295
 
 abbrev pub digits_after : ℕ → List ℕ → ℕ × List ℕ
 digits_after n [] = (n, [])
@@ -78,14 +75,6 @@ isa_at (b ∷ bs) = if b == 98 then Ok (B, bs) else (if b == 99 then Ok (C, bs) 
 unfoldable pub mask_at : List ℕ → Result (Bool × List ℕ) Stop
 mask_at [] = refuse N3 []
 mask_at (b ∷ bs) = if b == 77 then Ok (true, bs) else (if b == 78 then Ok (false, bs) else refuse N3 (b ∷ bs))
-
-abbrev pub is_s : Isa → Bool
-is_s B = false
-is_s C = false
-is_s D = false
-is_s E = false
-is_s N = false
-is_s S = true
 
 abbrev pub fixed_at : List ℕ → Result (Len × List ℕ) Stop
 fixed_at bytes = do

@@ -1,4 +1,5 @@
--- What a feed stands for, and what it answers.
+-- No public contract's meaning rests on this: which state of the code a feed of some bytes has, and what that state answers. Of
+-- `Stands` a caller needs only that `NameFeed::new` stands for no bytes and that `NameFeed::feed` adds its piece.
 use Rattle.std.specs.Prelude.{◌≡◌, ℕ, List, [], take, drop, Result, Ok, Err, IsOkAnd, IsErrAnd}
 use Rattle.std.specs.List.{fold}
 use Rattle.vk_kinds.specs.declared.kinds.Param.{Param}
