@@ -1,14 +1,14 @@
 -- Where refusals are told: no place is above the number of bytes.
-use Rattle.std.proofs.Common.{◌≡◌, ℕ, suc, ◌+◌, ◌<◌, ◌≤◌, ◌^◌, List, [], ◌∷◌, ◌++◌, length, take, Result, Ok, Err, IfErr, sym, ap, subst, ◌∙◌, arith}
-use Rattle.std.specs.List.{flat_map, prefix_len}
+use Rattle.std.proofs.Common.{◌≡◌, ℕ, ◌+◌, ◌<◌, ◌≤◌, List, [], ◌∷◌, ◌++◌, length, take, Result, Ok, Err, IfErr, ap, subst, ◌∙◌, arith}
+use Rattle.std.specs.List.{prefix_len}
 use Rattle.std.proofs.lemmas.Grind.{flat_map-append}
 use Rattle.std.proofs.lemmas.List.{length-append, length-take}
 use Rattle.vk_names.specs.declared.rules.NameRule.{NameRule}
 use Rattle.vk_names.specs.declared.rules.NameFault.{NameFault}
 use Rattle.vk_names.specs.declared.names.ReadName.{ReadName}
 use Rattle.vk_names.specs.Spelling.{Written, mark, isa_letter, mask_letter, front_text, written_text, params_text, kind_text, align_text, text_of, is_name_byte}
-use Rattle.vk_names.specs.Refusal.{Begins, Refused, wrong_mark, wrong_isa, wrong_mask, wrong_len, wrong_x, stray, one_more, cut_off, wrong_step, wrong_negative, wrong_position, wrong_align, misplaced, wrong_scalar, long_scalar, NameRefused}
-use Rattle.vk_names.specs.Pieces.{told_at, SaysRefused}
+use Rattle.vk_names.specs.Refusal.{Refused, wrong_mark, wrong_isa, wrong_mask, wrong_len, wrong_x, stray, one_more, cut_off, wrong_step, wrong_negative, wrong_position, wrong_align, misplaced, wrong_scalar, long_scalar, NameRefused}
+use Rattle.vk_names.specs.Pieces.{SaysRefused}
 
 shorter : (bytes : List ℕ) → length (text_of bytes) ≤ length bytes
 shorter bytes = let n = length-take (prefix_len is_name_byte bytes) bytes in grind (arith, n)
