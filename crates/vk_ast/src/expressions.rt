@@ -37,7 +37,7 @@ pub enum BinOp {
 
 /// An expression, with the line and the number of its first token. Parentheses make no node of their own.
 #[cycle(expr)]
-#[derive(Drop)]
+#[derive(Drop, PartialEq, Eq, Debug)]
 pub struct Expr {
     pub line: u32,
     pub token: u32,
@@ -46,7 +46,7 @@ pub struct Expr {
 
 /// What an expression is.
 #[cycle(expr)]
-#[derive(Drop)]
+#[derive(Drop, PartialEq, Eq, Debug)]
 pub enum ExprKind {
     /// An integer literal: its type and value (C17 6.4.4.1).
     Int(Ty, u64),

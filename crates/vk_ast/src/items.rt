@@ -15,7 +15,7 @@ pub struct Unit {
 }
 
 /// What stands at file scope.
-#[derive(Drop)]
+#[derive(Drop, PartialEq, Eq, Debug)]
 pub enum Item {
     Function(Function),
     Object(Object),
@@ -24,7 +24,7 @@ pub enum Item {
 }
 
 /// A declaration of a function, or its definition where there is a body. Line and token are those of the name.
-#[derive(Drop)]
+#[derive(Drop, PartialEq, Eq, Debug)]
 pub struct Function {
     pub line: u32,
     pub token: u32,
@@ -36,7 +36,7 @@ pub struct Function {
 }
 
 /// A parameter. Line and token are those of its name, or of its first token where it has none.
-#[derive(Drop)]
+#[derive(Drop, PartialEq, Eq, Debug)]
 pub struct ParamDecl {
     pub line: u32,
     pub token: u32,
@@ -47,7 +47,7 @@ pub struct ParamDecl {
 }
 
 /// A declaration of an object. Line and token are those of its name.
-#[derive(Drop)]
+#[derive(Drop, PartialEq, Eq, Debug)]
 pub struct Object {
     pub line: u32,
     pub token: u32,

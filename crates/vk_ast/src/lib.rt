@@ -11,11 +11,11 @@ pub mod names;
 pub mod nodes;
 pub mod statements;
 
-pub use directives::{Clause, ClauseKind, Directive, Modifier};
+pub use directives::{Clause, ClauseKind, Directive, Modifier, PlacedName};
 pub use expressions::{BinOp, Expr, ExprKind, UnOp};
 pub use items::{Function, Item, Object, ParamDecl, Unit};
 pub use names::{NameId, NameTable};
-pub use nodes::{expr_nodes, function_nodes, stmt_nodes};
+pub use nodes::{MAX_NODES, expr_nodes, function_nodes, stmt_nodes};
 pub use statements::{Stmt, StmtKind};
 pub use vk_memory::Memory;
 

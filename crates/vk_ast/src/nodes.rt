@@ -10,6 +10,9 @@ use crate::expressions::{Expr, ExprKind};
 use crate::items::Function;
 use crate::statements::{Stmt, StmtKind};
 
+/// A function that is defined has at most this many nodes.
+pub const MAX_NODES: u32 = 2000;
+
 /// The number of nodes of an expression, or 4294967295 where there are more.
 pub fn expr_nodes(e: &Expr) -> u32
     ensures { result ≡ min (nodes_of (expr_of e.now)) 4294967295 }

@@ -7,7 +7,7 @@ use vk_types::Ty;
 
 /// A statement, with the line and the number of its first token, or of the declared name.
 #[cycle(stmt)]
-#[derive(Drop)]
+#[derive(Drop, PartialEq, Eq, Debug)]
 pub struct Stmt {
     pub line: u32,
     pub token: u32,
@@ -16,7 +16,7 @@ pub struct Stmt {
 
 /// What a statement is.
 #[cycle(stmt)]
-#[derive(Drop)]
+#[derive(Drop, PartialEq, Eq, Debug)]
 pub enum StmtKind {
     Empty,
     Block(Vec<Stmt>),

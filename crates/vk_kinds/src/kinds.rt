@@ -1,5 +1,6 @@
 // What a variant's name and a directive say.
 
+use crate::limits::MAX_PARAMETERS;
 use arrayvec::ArrayVec;
 
 /// The machine that a unit is compiled for.
@@ -77,10 +78,10 @@ pub struct Param {
 }
 
 /// At most 64 parameters.
-pub type Params = ArrayVec<Param, 64>;
+pub type Params = ArrayVec<Param, MAX_PARAMETERS>;
 
 /// What one `declare simd` directive says.
-#[derive(Drop)]
+#[derive(Drop, PartialEq, Eq, Debug)]
 pub struct Signature {
     /// One for each parameter of the function.
     pub params: Params,

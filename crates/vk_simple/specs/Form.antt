@@ -3,10 +3,11 @@ use Rattle.std.specs.Prelude.{◌≡◌, ℕ, ◌≤◌, Bool, true, false, not,
 use Rattle.std.specs.Cmp.Lexicographic.{pointwise}
 use Rattle.std.specs.Option.{option_and_then}
 use Rattle.vk_types.specs.declared.types.Ty.{Ty}
-use Rattle.vk_kinds.specs.declared.heads.CType.{CType}
-use Rattle.vk_kinds.specs.declared.heads.CType.TheVariants.{Void, Int, Ptr}
+use Rattle.vk_kinds.specs.declared.limits.TheConstants.{MAX_PARAMETERS, MAX_IDENTIFIER_BYTES}
+use Rattle.vk_kinds.specs.Types.{integer_of}
 use Rattle.vk_ast.specs.declared.names.NameId.{NameId}
 use Rattle.vk_ast.specs.declared.items.ParamDecl.{ParamDecl}
+use Rattle.vk_ast.specs.declared.nodes.TheConstants.{MAX_NODES}
 use Rattle.vk_ast.specs.Directives.{Says, outside, ClauseTree, DirectiveTree}
 use Rattle.vk_ast.specs.Statements.{StmtTree, StmtTrees, block, return_value, no_stmts, more_stmts}
 use Rattle.vk_ast.specs.Tree.{Tree, expr_of, nodes_of}
@@ -44,11 +45,6 @@ has_one_directive (d ∷ e ∷ ds) = false
 
 -- ---- at most 64 integer parameters, whose names differ
 
-abbrev pub integer_type : CType → Option Ty
-integer_type Void = None
-integer_type (Int t) = Some t
-integer_type (Ptr to written) = None
-
 -- the name is there, and no parameter's
 abbrev pub is_new : Option NameId → List ParamDecl → Bool
 is_new None params = false
@@ -56,7 +52,7 @@ is_new (Some id) params = is_none (place_of params id)
 
 abbrev pub are_integers : List ParamDecl → Bool
 are_integers [] = true
-are_integers (p ∷ ps) = is_some (integer_type p.ctype) && (is_new p.name ps && are_integers ps)
+are_integers (p ∷ ps) = is_some (integer_of p.ctype) && (is_new p.name ps && are_integers ps)
 
 -- ---- names
 
@@ -70,7 +66,7 @@ text_of texts id = unwrap_or (slice_get texts id.0) []
 
 -- identifiers have at most 1024 bytes
 abbrev pub is_short : List ℕ → Bool
-is_short text = nat_le (length text) 1024
+is_short text = nat_le (length text) MAX_IDENTIFIER_BYTES
 
 abbrev pub has_short_name : List (List ℕ) → Option NameId → Bool
 has_short_name texts None = true
@@ -100,8 +96,8 @@ returned_in s = None
 -- the limits, and what the function's head and expression have to be
 abbrev pub is_form : List (List ℕ) → FunctionTree → List ℕ → Tree → Bool
 is_form texts f name value =
-    has_one_directive f.directives && (are_integers f.params && (nat_le (length f.params) 64 && (is_free name && (is_short name
-    && (have_short_names texts f.params && (nat_le (function_nodes f) 2000 && is_simple f.params value))))))
+    has_one_directive f.directives && (nat_le (length f.params) MAX_PARAMETERS && (are_integers f.params && (is_free name && (is_short name
+    && (have_short_names texts f.params && (nat_le (function_nodes f) MAX_NODES && is_simple f.params value))))))
 
 abbrev pub form_of_parts : List (List ℕ) → FunctionTree → List ℕ → Ty → Tree → Option FormTree
 form_of_parts texts f name result value =
@@ -110,7 +106,7 @@ form_of_parts texts f name result value =
 abbrev pub form_of_function : List (List ℕ) → FunctionTree → Option FormTree
 form_of_function texts f =
     option_and_then (λ result. option_and_then (λ value. form_of_parts texts f (text_of texts f.name) result value)
-    (option_and_then returned_in f.body)) (integer_type f.result)
+    (option_and_then returned_in f.body)) (integer_of f.result)
 
 abbrev pub form_of_item : List (List ℕ) → ItemTree → Option FormTree
 form_of_item texts (function f) = form_of_function texts f
@@ -125,6 +121,6 @@ form_of_items texts (i ∷ j ∷ is) = None
 -- what the code of a function needs of its parameters and its expression
 pub record CanCompile (params : List ParamDecl) (value : Tree) : Type 0 where
   pub integers : AreRegisters params (heads_of params)
-  pub few : length params ≤ 64
+  pub few : length params ≤ MAX_PARAMETERS
   pub simple : is_simple params value ≡ true
-  pub small : nodes_of value ≤ 2000
+  pub small : nodes_of value ≤ MAX_NODES

@@ -13,7 +13,7 @@ use crate::emitter::{Emitter, Place};
 use std::alloc::{AllocError, Global};
 use vk_ast::{Expr, ExprKind, NameId, ParamDecl};
 use vk_code::Code;
-use vk_kinds::CType;
+use vk_kinds::{CType, MAX_PARAMETERS};
 use vk_types::Ty;
 
 /// The lane code of a function that returns the expression, converted to `ty`: the parameters' registers first, then one of its
@@ -62,7 +62,7 @@ pub fn heads(alloc: Global, params: &[ParamDecl]) -> Result<Vec<CType>, AllocErr
 // Appends the code of an expression, and tells the place of its value.
 fn emit(emitter: &mut Emitter, params: &[ParamDecl], e: &Expr) -> Result<Place, AllocError>
     requires registers { AreRegisters params.now emitter.old.regs.items }
-    requires few { length params.now ≤ 64 }
+    requires few { length params.now ≤ MAX_PARAMETERS }
     requires simple { IsTrue (is_simple params.now (expr_of e.now)) }
     requires room { length emitter.old.regs.items + 3 * nodes_of (expr_of e.now) ≤ 65536 }
     ensures code { IfOk result (λ d. Appends emitter.old emitter.new (Evaluates params.now (expr_of e.now) d)) }
@@ -96,7 +96,7 @@ fn emit(emitter: &mut Emitter, params: &[ParamDecl], e: &Expr) -> Result<Place, 
 
 // The register of the parameter with this name.
 fn place_in(params: &[ParamDecl], id: NameId) -> Place
-    requires few { length params.now ≤ 64 }
+    requires few { length params.now ≤ MAX_PARAMETERS }
     requires known { IsSome (place_of params.now id) }
     ensures place { place_of params.now id ≡ Some result.register }
     ensures ty { result.ty ≡ types_in params.now id }

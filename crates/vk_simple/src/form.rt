@@ -6,15 +6,15 @@ ghost use Rattle.vk_ast.specs.Directives.{clause_of, directive_of, says_of};
 ghost use Rattle.vk_ast.specs.Statements.{list_stmts, stmt_of};
 ghost use Rattle.vk_ast.specs.Tree.{expr_of};
 ghost use Rattle.vk_ast.specs.Units.{function_nodes, function_of, items_of};
-ghost use Rattle.vk_simple.specs.Form.{CanCompile, are_integers, form_of_function, form_tree, has_short_name, have_short_names, is_form, returned_alone, text_of, form_of_items, has_one_directive, integer_type, is_free, is_new, is_only_outside, is_outside, returned_by, returned_in};
+ghost use Rattle.vk_simple.specs.Form.{CanCompile, are_integers, form_of_function, form_tree, has_short_name, have_short_names, is_form, returned_alone, text_of, form_of_items, has_one_directive, is_free, is_new, is_only_outside, is_outside, returned_by, returned_in};
 ghost use Rattle.vk_simple.specs.Parameters.{is_simple, is_simple_operator, place_of};
 
 use crate::compile::is_named;
 use vk_ast::{
-    BinOp, Clause, ClauseKind, Directive, Expr, ExprKind, Function, Item, NameId, NameTable,
+    BinOp, Clause, ClauseKind, Directive, Expr, ExprKind, Function, Item, MAX_NODES, NameId, NameTable,
     ParamDecl, Stmt, StmtKind, Unit, function_nodes,
 };
-use vk_kinds::CType;
+use vk_kinds::{MAX_IDENTIFIER_BYTES, MAX_PARAMETERS};
 use vk_types::Ty;
 
 /// What a unit of the simple form says.
@@ -54,16 +54,6 @@ fn has_one_directive(directives: &[Directive]) -> bool
     match directives {
         [directive] => is_only_outside(&directive.clauses),
         _ => false,
-    }
-}
-
-// The type, where it is an integer's.
-fn integer_type(ctype: CType) -> Option<Ty>
-    ensures { result ≡ integer_type ctype }
-{
-    match ctype {
-        CType::Int(ty) => Some(ty),
-        CType::Void | CType::Ptr { .. } => None,
     }
 }
 
@@ -127,7 +117,7 @@ fn are_integers(params: &[ParamDecl]) -> bool
     match params {
         [] => true,
         [param, rest @ ..] => {
-            integer_type(param.ctype).is_some() && is_new(param.name, rest) && are_integers(rest)
+            param.ctype.integer().is_some() && is_new(param.name, rest) && are_integers(rest)
         }
     }
 }
@@ -179,7 +169,7 @@ fn has_short_name(names: &NameTable, name: Option<NameId>) -> bool
     ensures { result ≡ has_short_name names.now name }
 {
     match name {
-        Some(id) => text_of(names, id).len() <= 1024,
+        Some(id) => text_of(names, id).len() <= MAX_IDENTIFIER_BYTES,
         None => true,
     }
 }
@@ -196,9 +186,9 @@ fn have_short_names(names: &NameTable, params: &[ParamDecl]) -> bool
 
 // Whether a function has at most 2000 nodes.
 fn is_small(function: &Function) -> bool
-    ensures { result ≡ nat_le (function_nodes (function_of function.now)) 2000 }
+    ensures { result ≡ nat_le (function_nodes (function_of function.now)) MAX_NODES }
 {
-    function_nodes(function) <= 2000
+    function_nodes(function) <= MAX_NODES
 }
 
 // Whether the function's head, its name and its expression are those of the form.
@@ -206,10 +196,10 @@ fn is_form(names: &NameTable, function: &Function, name: &[u8], value: &Expr) ->
     ensures { result ≡ is_form names.now (function_of function.now) name.now (expr_of value.now) }
 {
     has_one_directive(&function.directives)
+        && function.params.len() <= MAX_PARAMETERS
         && are_integers(&function.params)
-        && function.params.len() <= 64
         && is_free(name)
-        && name.len() <= 1024
+        && name.len() <= MAX_IDENTIFIER_BYTES
         && have_short_names(names, &function.params)
         && is_small(function)
         && is_simple(&function.params, value)
@@ -220,7 +210,7 @@ fn form_of_function<'a>(names: &'a NameTable, function: &'a Function) -> Option<
     ensures form { option_map form_tree result ≡ form_of_function names.now (function_of function.now) }
     ensures compiles { IfSome result (λ form. CanCompile form.params.now (expr_of form.value.now)) }
 {
-    let result = integer_type(function.result)?;
+    let result = function.result.integer()?;
     let value = returned_in(function.body.as_ref()?)?;
     let name = text_of(names, function.name);
     if is_form(names, function, name, value) {

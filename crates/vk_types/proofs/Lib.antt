@@ -1,3 +1,3 @@
-mod Patterns
+pub mod Patterns
 mod WrapNumber
-mod Wrapping
+pub mod Wrapping

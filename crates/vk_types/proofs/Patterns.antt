@@ -1,4 +1,5 @@
--- Results that the code computes on 64-bit patterns, and the numbers that the definitions give.
+-- For whoever computes on 64-bit patterns: what is computed there (sums and products modulo 2^64, shifts, bitwise operators) wraps
+-- to the number that the definitions of operators give.
 use Rattle.std.proofs.Common.{◌≡◌, ℕ, zero, suc, ◌+◌, ◌-◌, ◌*◌, ◌/◌, ◌%◌, ◌^◌, ◌<◌, ◌≤◌, min, max, bit_and, bit_or, bit_xor, ℤ, pos, ◌*ℤ◌, w8, w16, w32, w64, ap, ap₂, sym, ◌∙◌, inl, inr, refl, arith, lit<, lit≤}
 use Rattle.std.proofs.Math.Nat.{add_comm, mod-eq_of_lt, mod-add-div, mod-lt, mod-mod, two-pow-succ, pow-succ'}
 use Rattle.std.proofs.Math.Pow.{pow_pos, pow-lt}
@@ -63,7 +64,7 @@ product t a b x y ha hb ex ey =
 signed_by_low : (w : Width) (a : ℕ) → int_wrap w (pos a) ≡ int_wrap w (pos (a % 2 ^ bits w))
 signed_by_low w a = wrap_by_rem w (pos a) (a % 2 ^ bits w) refl ∙ sym (wrap_by_rem w (pos (a % 2 ^ bits w)) (a % 2 ^ bits w) (ap pos (mod-mod a (2 ^ bits w))))
 
-wraps_by_low : (t : Ty) (a : ℕ) → wrap_number t (pos a) ≡ wrap_number t (pos (a % 2 ^ width_of t))
+pub wraps_by_low : (t : Ty) (a : ℕ) → wrap_number t (pos a) ≡ wrap_number t (pos (a % 2 ^ width_of t))
 wraps_by_low I8 a = signed_by_low w8 a
 wraps_by_low I16 a = signed_by_low w16 a
 wraps_by_low I32 a = signed_by_low w32 a
@@ -77,7 +78,7 @@ wraps_by_low U64 a = ap pos (sym (mod-mod a (2 ^ 64)))
 low_bits-suc : (n a : ℕ) → a % 2 ^ suc n ≡ a % 2 ^ n + bit_at a n * 2 ^ n
 low_bits-suc n a = ap (λ m. a % m) (pow-succ' 2 n) ∙ mod-mul a {m = 2} {c = 2 ^ n} (lit< tt) (pow_pos n) ∙ add_comm (bit_at a n * 2 ^ n) (a % 2 ^ n)
 
-low_bits : (n a : ℕ) (f : ℕ → ℕ) → ((k : ℕ) → k < n → bit_at a k ≡ f k) → a % 2 ^ n ≡ from_bits n f
+pub low_bits : (n a : ℕ) (f : ℕ → ℕ) → ((k : ℕ) → k < n → bit_at a k ≡ f k) → a % 2 ^ n ≡ from_bits n f
 unfolding from_bits
 low_bits zero a f same = omega arith
 low_bits (suc n) a f same =
@@ -135,7 +136,7 @@ signed_wrap_bit : (w : Width) (n k : ℕ) → k < bits w → bit_of (int_wrap w 
 signed_wrap_bit w n k h =
     ap (λ z. bit_of z k) (wrap_by_rem w (pos n) (n % 2 ^ bits w) refl) ∙ signed_bit w (n % 2 ^ bits w) k (mod-lt n (positive w)) h ∙ low_bit (bits w) n k h
 
-wrap_bit : (t : Ty) (n k : ℕ) → k < width_of t → bit_of (wrap_number t (pos n)) k ≡ bit_at n k
+pub wrap_bit : (t : Ty) (n k : ℕ) → k < width_of t → bit_of (wrap_number t (pos n)) k ≡ bit_at n k
 wrap_bit I8 n k h = signed_wrap_bit w8 n k h
 wrap_bit I16 n k h = signed_wrap_bit w16 n k h
 wrap_bit I32 n k h = signed_wrap_bit w32 n k h
@@ -152,12 +153,12 @@ one_more a b p h i = elim (cases_lt b 1) [
   | inr some ↦ let e : b ≡ 1 = omega arith in rw e (omega arith)
 ]
 
-from_bits_below : (n : ℕ) (f : ℕ → ℕ) → ((i : ℕ) → f i < 2) → from_bits n f < 2 ^ n
+pub from_bits_below : (n : ℕ) (f : ℕ → ℕ) → ((i : ℕ) → f i < 2) → from_bits n f < 2 ^ n
 unfolding from_bits
 from_bits_below zero f h = lit< tt
 from_bits_below (suc n) f h = rw (two-pow-succ n) (one_more (from_bits n f) (f n) (2 ^ n) (from_bits_below n f h) (h n))
 
-bit_at-from_bits : (n : ℕ) (f : ℕ → ℕ) → ((i : ℕ) → f i < 2) → (k : ℕ) → k < n → bit_at (from_bits n f) k ≡ f k
+pub bit_at-from_bits : (n : ℕ) (f : ℕ → ℕ) → ((i : ℕ) → f i < 2) → (k : ℕ) → k < n → bit_at (from_bits n f) k ≡ f k
 unfolding from_bits
 bit_at-from_bits zero f h k i = absurd (omega arith)
 bit_at-from_bits (suc n) f h k i = ap (λ x. bit_at x k) (add_comm (from_bits n f) (f n * 2 ^ n)) ∙ elim (cases_lt k n) [

@@ -1,4 +1,4 @@
--- Remainders and the numbers of a range.
+-- For proofs about wrapping at a width: remainders by 2 to the width, and the numbers of a range.
 use Rattle.std.proofs.Common.{◌≡◌, ℕ, suc, ◌+◌, ◌-◌, ◌*◌, ◌/◌, ◌%◌, ◌^◌, ◌<◌, ◌≤◌, ℤ, pos, negsuc, ◌+ℤ◌, ◌*ℤ◌, neg_ℤ, FitsSigned, w8, w16, w32, w64, ap, ap₂, sym, ◌∙◌, inl, inr, refl, arith, lit<}
 use Rattle.std.proofs.Math.IntN.{*ℤ-zero, +ℤ_idr, suc_ℤ, suc_ℤ-*ℤ}
 use Rattle.std.proofs.Math.Nat.{mod-add-div, mod-eq_of_lt, mod-lt, mul_comm}

@@ -1,3 +1,4 @@
 pub mod Conversions
+pub mod Formats
 pub mod Numbers
 pub mod Operators

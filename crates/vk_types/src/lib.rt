@@ -8,7 +8,7 @@ pub mod types;
 
 pub use numbers::{common, convert, number, promote, size, wrap};
 pub use operators::{op1, op2};
-pub use types::{Op1, Op2, Stop, Ty, Word};
+pub use types::{Op1, Op2, Stop, Ty, UnknownType, Word};
 
 #[cfg(test)]
 mod tests;
