@@ -17,7 +17,7 @@ use Rattle.vk_lex.proofs.Firsts.{found_at, from_firsts}
 
 -- ---- a name that was found is an identifier
 
-run_more : (p : ℕ → Bool) (x : ℕ) (xs : List ℕ) → p x ≡ true → run p (x ∷ xs) ≡ x ∷ run p xs
+pub run_more : (p : ℕ → Bool) (x : ℕ) (xs : List ℕ) → p x ≡ true → run p (x ∷ xs) ≡ x ∷ run p xs
 run_more p x xs e =
     let count : cond true (1 + prefix_len p xs) 0 ≡ suc (prefix_len p xs) = omega arith in
     ap (λ n. take n (x ∷ xs)) (ap (λ b. cond b (1 + prefix_len p xs) 0) e ∙ count)
@@ -25,7 +25,7 @@ run_more p x xs e =
 run_none : (p : ℕ → Bool) (x : ℕ) (xs : List ℕ) → p x ≡ false → run p (x ∷ xs) ≡ []
 run_none p x xs e = ap (λ b. take (cond b (1 + prefix_len p xs) 0) (x ∷ xs)) e
 
-run_all : (p : ℕ → Bool) (xs : List ℕ) → list_all p (run p xs) ≡ true
+pub run_all : (p : ℕ → Bool) (xs : List ℕ) → list_all p (run p xs) ≡ true
 run_all p [] = refl
 run_all p (x ∷ xs) =
     elim (cases_Bool (p x)) [

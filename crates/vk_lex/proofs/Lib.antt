@@ -2,6 +2,7 @@ mod Gaps
 mod Firsts
 mod Fronts
 mod Identifiers
+mod Integers
 mod Joins
 mod Lengths
 mod Loop
