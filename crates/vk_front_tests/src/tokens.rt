@@ -1,53 +1,11 @@
 // Tokens, lines and faults of small units.
 
-use crate::reader::lex;
-use crate::signs::mark_text;
+use crate::print::{Printer, refusal};
 use std::alloc::{AllocError, Global};
-use std::str;
 use std::test::Fail;
-use vk_tokens::{Token, TokenKind, Tokens};
-use vk_unit_rules::UnitFail;
+use vk_lex::lex;
 
-// Each token as its line and its text or value, or the fault.
-fn shown(alloc: Global, bytes: &[u8]) -> Result<String, AllocError> {
-    let mut text = String::new(alloc);
-    if bytes.len() > 1000 {
-        return Ok(text);
-    }
-    match lex(alloc, bytes) {
-        Ok(tokens) => {
-            for token in &tokens.list {
-                text.push_str(one(alloc, &tokens, *token)?.as_str())?;
-            }
-            text.push_str(format!(in alloc; "{}", tokens.last)?.as_str())?;
-        }
-        Err(UnitFail::Fault { line, rule }) => text.push_str(format!(in alloc;
-            "{rule:?} {line}"
-        )?.as_str())?,
-        Err(UnitFail::Memory) => text.push_str("no memory")?,
-    }
-    Ok(text)
-}
-
-fn one(alloc: Global, tokens: &Tokens, token: Token) -> Result<String, AllocError> {
-    let line = token.line;
-    match token.kind {
-        TokenKind::Name(id) => {
-            let named = (id.0 as usize) < tokens.names.len();
-            let text = if named { tokens.names.text(id) } else { b"?" };
-            format!(in alloc; "{line}:{} ", str::from_utf8(text).unwrap_or("?"))
-        }
-        TokenKind::Int(t, n) => format!(in alloc; "{line}:{n}{t:?} "),
-        TokenKind::Sign(mark) => format!(in alloc;
-            "{line}:{} ",
-            str::from_utf8(mark_text(mark)).unwrap_or("?")
-        ),
-        TokenKind::Simdfn => format!(in alloc; "{line}:SIMDFN "),
-        TokenKind::Simd => format!(in alloc; "{line}:SIMD "),
-        TokenKind::LineEnd => format!(in alloc; "{line}:END "),
-    }
-}
-
+// Each token as its line and its text or value, behind them the line of the end; or the fault.
 static UNITS: [(&str, &str); 86] = [
     ("", "1"),
     ("int f(void);\n", "1:int 1:f 1:( 1:void 1:) 1:; 2"),
@@ -143,11 +101,34 @@ static UNITS: [(&str, &str); 86] = [
     ("#pragma omp simd /* x", "C1 1"),
 ];
 
+fn shown(alloc: Global, bytes: &[u8]) -> Result<String, AllocError> {
+    if bytes.len() > 1000 {
+        return Ok(String::new(alloc));
+    }
+    match lex(alloc, bytes) {
+        Ok(tokens) => {
+            let printer = Printer {
+                alloc,
+                names: &tokens.names,
+            };
+            let mut text = String::new(alloc);
+            for token in &tokens.list {
+                text.push_str(printer.token(*token)?.as_str())?;
+                text.push(' ')?;
+            }
+            let last = tokens.last;
+            text.push_str(format!(in alloc; "{last}")?.as_str())?;
+            Ok(text)
+        }
+        Err(fail) => refusal(alloc, fail),
+    }
+}
+
 #[test]
 fn reads_tokens(rt: HostRuntime) -> Result<(), Fail> {
-    for (unit, expected) in UNITS.iter() {
-        let text = shown(rt.alloc(), unit.as_bytes())?;
-        assert_eq!(rt; text.as_str(), *expected);
+    for (unit, want) in &UNITS {
+        let found = shown(rt.alloc(), unit.as_bytes())?;
+        assert!(rt; found.as_str() == *want, "{unit}");
     }
     Ok(())
 }
