@@ -5,8 +5,13 @@
 
 pub mod heads;
 pub mod kinds;
+pub mod lanes;
+pub mod laws;
 pub mod limits;
+pub mod sizes;
 
 pub use heads::{CType, Head, Types};
 pub use kinds::{Branch, Isa, Kind, Len, Length, Lengths, Param, Params, Signature, Step, Target};
+pub use lanes::{has_sve_width, lanes_at, lengths};
 pub use limits::{MAX_IDENTIFIER_BYTES, MAX_PARAMETERS};
+pub use sizes::{cdt, nds, wds};

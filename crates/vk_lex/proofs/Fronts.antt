@@ -8,7 +8,9 @@ use Rattle.vk_unit_rules.specs.declared.rules.UnitRule.TheVariants.{C1, C2, C4}
 use Rattle.vk_lex.specs.Characters.{is_word_start, is_word_byte, run, after}
 use Rattle.vk_lex.specs.Literals.{begins_floating, begins_fraction, literal}
 use Rattle.vk_tokens.specs.declared.tokens.Mark.{Mark}
-use Rattle.vk_lex.specs.Signs.{mark_text, sign_at}
+use Rattle.vk_lex.specs.Signs.{mark_text}
+use Rattle.vk_lex.specs.Inner.Signs.{sign_at}
+use Rattle.vk_lex.proofs.Marks.{longest, no_mark}
 use Rattle.vk_lex.specs.Tokens.{Kind, word, integer, sign}
 use Rattle.vk_lex.specs.Lexing.{begins_by, is_floating_word, is_number_byte, IsToken, a_name, a_number, a_sign, IsNoToken, floating_word, floating_number, no_literal, floating_fraction, stray_byte, BeginsOther, IsPlain, BeginsToken, ended, going, IsPiece, a_blank, a_newline, a_heading, a_token, an_idle_byte, IsFault, late_hash, no_heading, no_token}
 use Rattle.vk_lex.specs.Comments.{begins_with, begins_blank}
@@ -43,15 +45,15 @@ floating_fault (c ∷ cs) b d = floating_number b d
 
 pub sign_token : (text rest : List ℕ) (m : Mark) → BeginsOther text → IsPlain text → Some m ≡ sign_at text → rest ≡ drop (length (mark_text m)) text → IsToken text (sign m) rest
 sign_token [] rest m b p e f = absurd b
-sign_token (c ∷ cs) rest m b p e f = subst (λ (r : List ℕ). IsToken (c ∷ cs) (sign m) r) (sym f) (a_sign b p (sym e))
+sign_token (c ∷ cs) rest m b p e f = subst (λ (r : List ℕ). IsToken (c ∷ cs) (sign m) r) (sym f) (a_sign b p (longest (c ∷ cs) m (sym e)))
 
 pub fraction_fault : (text : List ℕ) → BeginsOther text → IsPlain text → None ≡ sign_at text → true ≡ begins_fraction text → IsNoToken text C2
 fraction_fault [] b p e f = absurd b
-fraction_fault (c ∷ cs) b p e f = floating_fraction b p (sym e) (sym f)
+fraction_fault (c ∷ cs) b p e f = floating_fraction b p (no_mark (c ∷ cs) (sym e)) (sym f)
 
 pub stray_fault : (text : List ℕ) → BeginsOther text → IsPlain text → None ≡ sign_at text → false ≡ begins_fraction text → IsNoToken text C1
 stray_fault [] b p e f = absurd b
-stray_fault (c ∷ cs) b p e f = stray_byte b p (sym e) (sym f)
+stray_fault (c ∷ cs) b p e f = stray_byte b p (no_mark (c ∷ cs) (sym e)) (sym f)
 
 -- ---- pieces
 

@@ -42,7 +42,7 @@ close_length (c ∷ cs) rest e = by ((c == 42) && begins_with 47 cs) (close_leng
     by true next f = let is = ap (λ o. length (unwrap_or o [])) f in omega (arith, is, dropped 1 cs)
     by false next f = let below = next f in omega arith
 
-comment_length : (text rest : List ℕ) → after_comment text ≡ Some rest → length rest < length text
+pub comment_length : (text rest : List ℕ) → after_comment text ≡ Some rest → length rest < length text
 comment_length [] rest e = absurd (none-some rest e)
 comment_length (c ∷ []) rest e = absurd (none-some rest e)
 comment_length (c ∷ d ∷ cs) rest e = by ((c == 47) && (d == 47)) ((c == 47) && (d == 42)) e

@@ -59,7 +59,6 @@ pub record Lexing (bytes : List ℕ) (names : List (List ℕ)) (list : List Toke
   pub goes : (ts : List Tok) → Reads (line_of bytes) mode rest ts → Lexes bytes (map (tok_of names) list ++ ts)
   pub fails : (l : ℕ) (r : UnitRule) → Fails (line_of bytes) mode rest l r → Refuses bytes l r
   pub named : All (λ t. IsNamed names t.kind) list
-  pub identifiers : AreIdentifiers names
   pub order : names ≡ names_of (map (tok_of names) list)
   pub count : owed mode + length list + length rest ≤ length (text_of bytes)
   pub few : length names ≤ length list
@@ -69,77 +68,10 @@ lexing_start bytes text e = record {
   goes = λ ts r. subst (λ (t : List ℕ). Reads (line_of bytes) Start t ts) e r;
   fails = λ l r f. subst (λ (t : List ℕ). Fails (line_of bytes) Start t l r) e f;
   named = λ k d below. absurd (omega arith);
-  identifiers = λ k text f. absurd (none-some text f);
   order = refl;
   count = omega (arith, ap (λ (t : List ℕ). length t) e);
   few = omega arith;
 }
-
--- ---- names
-
-run_more : (p : ℕ → Bool) (x : ℕ) (xs : List ℕ) → p x ≡ true → run p (x ∷ xs) ≡ x ∷ run p xs
-run_more p x xs e =
-    let count : cond true (1 + prefix_len p xs) 0 ≡ suc (prefix_len p xs) = omega arith in
-    ap (λ n. take n (x ∷ xs)) (ap (λ b. cond b (1 + prefix_len p xs) 0) e ∙ count)
-
-run_none : (p : ℕ → Bool) (x : ℕ) (xs : List ℕ) → p x ≡ false → run p (x ∷ xs) ≡ []
-run_none p x xs e = ap (λ b. take (cond b (1 + prefix_len p xs) 0) (x ∷ xs)) e
-
-run_all : (p : ℕ → Bool) (xs : List ℕ) → list_all p (run p xs) ≡ true
-run_all p [] = refl
-run_all p (x ∷ xs) =
-    elim (cases_Bool (p x)) [
-      | inl e ↦ ap (list_all p) (run_more p x xs e) ∙ ap (λ b. b && list_all p (run p xs)) e ∙ run_all p xs
-      | inr e ↦ ap (list_all p) (run_none p x xs e)
-    ]
-
-both_true : (p q : Bool) → (p && q) ≡ true → p ≡ true
-both_true true q e = refl
-both_true false q e = absurd (false≢true e)
-
-identifier_run : (c : ℕ) (cs : List ℕ) → is_word_start c ≡ true → IsIdentifier (run is_word_byte (c ∷ cs))
-identifier_run c cs w = record {
-  first = ap (λ (l : List ℕ). is_word_start (slice_index l 0)) (run_more is_word_byte c cs (both_true (is_word_byte c) (not (is_ascii_digit c)) w)) ∙ w;
-  bytes = run_all is_word_byte (c ∷ cs);
-}
-
--- a name that was found is an identifier
-abbrev IsGood : Option Kind → Type 0
-IsGood None = Unit {0}
-IsGood (Some (word w)) = IsIdentifier w
-IsGood (Some (integer t n)) = Unit {0}
-IsGood (Some (sign m)) = Unit {0}
-IsGood (Some simdfn) = Unit {0}
-IsGood (Some simd) = Unit {0}
-IsGood (Some line_end) = Unit {0}
-
-token_good : {text rest : List ℕ} {k : Kind} → IsToken text k rest → IsGood (Some k)
-token_good (a_name {c = c} {cs = cs} w f) = identifier_run c cs w
-token_good (a_number d f e) = tt
-token_good (a_sign o p e) = tt
-
-ended_good : (m : Mode) → IsGood (ended m)
-ended_good Start = tt
-ended_good Inside = tt
-ended_good Directive = tt
-ended_good Idle = tt
-
-directive_good : {text rest : List ℕ} {k : Kind} → IsDirective text k rest → IsGood (Some k)
-directive_good (a_simd words) = tt
-directive_good (a_simdfn words) = tt
-
-heading_good : {text rest : List ℕ} {k : Option Kind} {n : Mode} → Heading text k n rest → IsGood k
-heading_good (an_include words file) = tt
-heading_good (a_pragma words none) = tt
-heading_good (a_directive words d) = directive_good d
-
-piece_good : {m n : Mode} {text rest : List ℕ} {k : Option Kind} → IsPiece m text k n rest → IsGood k
-piece_good (a_blank b) = tt
-piece_good {m = m} a_newline = ended_good m
-piece_good (a_comment e) = tt
-piece_good (a_heading h) = heading_good h
-piece_good (a_token ne t) = token_good t
-piece_good (an_idle_byte ne p) = tt
 
 -- ---- a table that grows
 
@@ -187,10 +119,6 @@ module _ {line : ℕ} {k : Kind} {list new : List Token} {names now : List (List
   told_named : All (λ t. IsNamed names t.kind) list → All (λ t. IsNamed now t.kind) new
   told_named all = subst (λ (l : List Token). All (λ t. IsNamed now t.kind) l) (sym one.list) (all_named names now list one.token one.grows.keeps all one.named)
 
-  told_identifiers : IsGood (Some k) → AreIdentifiers names → AreIdentifiers now
-  told_identifiers good all j text at =
-      elim (one.grows.only j text at) [ inl was ↦ all j text was | inr is ↦ subst (λ (x : Kind). IsGood (Some x)) is good ]
-
   told_order : All (λ t. IsNamed names t.kind) list → names ≡ names_of (map (tok_of names) list) → now ≡ names_of (map (tok_of now) new)
   told_order all order =
       one.grows.exact
@@ -211,7 +139,6 @@ module _ (bytes : List ℕ) (names : List (List ℕ)) (list : List Token) (m : M
           goes = λ ts r. old.goes ts (a_piece p r);
           fails = λ l x r. old.fails l x (later p r);
           named = old.named;
-          identifiers = old.identifiers;
           order = old.order;
           count = let shorter = piece_owed p in omega (arith, old.count);
           few = old.few;
@@ -222,7 +149,6 @@ module _ (bytes : List ℕ) (names : List (List ℕ)) (list : List Token) (m : M
       goes = λ ts r. subst (Lexes bytes) (sym (told_map one old.named ts)) (old.goes _ (a_piece p r));
       fails = λ l x r. old.fails l x (later p r);
       named = told_named one old.named;
-      identifiers = told_identifiers one (piece_good p) old.identifiers;
       order = told_order one old.named old.order;
       count = let shorter = piece_owed p in omega (arith, old.count, told_count one);
       few = omega (arith, one.grows.most, old.few, told_count one);
@@ -259,7 +185,6 @@ text_length bytes = omega (arith, length-map (characters bytes) (λ (c : Char). 
 pub record Lexed (bytes : List ℕ) (names : List (List ℕ)) (list : List Token) : Type 0 where
   pub lexes : Lexes bytes (map (tok_of names) list)
   pub named : All (λ t. IsNamed names t.kind) list
-  pub identifiers : AreIdentifiers names
   pub order : names ≡ names_of (map (tok_of names) list)
   pub count : length list ≤ length bytes
   pub few : length names ≤ length list
@@ -272,7 +197,6 @@ module _ (bytes : List ℕ) (names : List (List ℕ)) (list : List Token) (m : M
         lexes = subst (Lexes bytes) (append-nil (map (tok_of names) list))
             (old.goes [] (subst (λ (ts : List Tok). Reads (line_of bytes) m [] ts) (ap (λ (o : Option Kind). with_kind (line_of bytes) o 0 []) e) at_end));
         named = old.named;
-        identifiers = old.identifiers;
         order = old.order;
         count = omega (arith, old.count, text_length bytes);
         few = old.few;
@@ -283,7 +207,6 @@ module _ (bytes : List ℕ) (names : List (List ℕ)) (list : List Token) (m : M
     lexes = subst (Lexes bytes) (sym (sym (append-nil (map (tok_of now) new)) ∙ told_map one old.named []))
         (old.goes _ (subst (λ (ts : List Tok). Reads (line_of bytes) m [] ts) (ap (λ (o : Option Kind). with_kind (line_of bytes) o 0 []) e) at_end));
     named = told_named one old.named;
-    identifiers = told_identifiers one (subst (λ (o : Option Kind). IsGood o) e (ended_good m)) old.identifiers;
     order = told_order one old.named old.order;
     count = omega (arith, old.count, text_length bytes, told_count one, ended_owes m k e);
     few = omega (arith, one.grows.most, old.few, told_count one);

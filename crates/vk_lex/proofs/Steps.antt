@@ -12,7 +12,9 @@ use Rattle.vk_lex.specs.Characters.{is_blank, is_word_start, is_word_byte, is_no
 use Rattle.vk_lex.specs.Comments.{after_comment, after_close, is_open_comment}
 use Rattle.vk_lex.specs.Headings.{Heading}
 use Rattle.vk_lex.specs.Literals.{begins_floating, begins_fraction, literal}
-use Rattle.vk_lex.specs.Signs.{mark_text, sign_at}
+use Rattle.vk_lex.specs.Signs.{mark_text}
+use Rattle.vk_lex.specs.Inner.Signs.{sign_at}
+use Rattle.vk_lex.proofs.Marks.{longest_is, no_mark_is}
 use Rattle.vk_lex.specs.Tokens.{Kind, word, integer, sign}
 use Rattle.vk_lex.specs.declared.pieces.Mode.{Mode}
 use Rattle.vk_lex.specs.declared.pieces.Mode.TheVariants.{Start, Inside, Directive, Idle}
@@ -174,9 +176,9 @@ token_seen {m = m} ne (a_number {c = c} {cs = cs} {t = t} {n = n} d f e) =
     subst (λ (s : Step). Seen s (Some (integer t n)) (going m) (after is_number_byte (c ∷ cs)))
     (sym (digit_at m c cs ne d ∙ ap (λ b. if b then faults C2 else literal_step m (after is_number_byte (c ∷ cs)) (literal (run is_number_byte (c ∷ cs)))) f
     ∙ ap (literal_step m (after is_number_byte (c ∷ cs))) e)) (refl, refl, refl)
-token_seen {m = m} ne (a_sign {c = c} {cs = cs} {m = found} o p e) =
+token_seen {m = m} ne (a_sign {c = c} {cs = cs} {m = found} o p l) =
     subst (λ (s : Step). Seen s (Some (sign found)) (going m) (drop (length (mark_text found)) (c ∷ cs)))
-    (sym (other_at m c cs ne o p ∙ ap (sign_step m (c ∷ cs)) e)) (refl, refl, refl)
+    (sym (other_at m c cs ne o p ∙ ap (sign_step m (c ∷ cs)) (longest_is (c ∷ cs) found l))) (refl, refl, refl)
 
 seen : {m n : Mode} {text rest : List ℕ} {k : Option Kind} → IsPiece m text k n rest → Seen (step m text) k n rest
 seen {m = m} (a_blank {c = c} {cs = cs} b) = subst (λ (s : Step). Seen s None m cs) (sym (blank_at m c cs b)) (refl, refl, refl)
@@ -195,10 +197,10 @@ fault_seen {m = m} ne (no_literal {c = c} {cs = cs} {r = r} d f e) =
     subst (λ (s : Step). Faulted s r)
     (sym (digit_at m c cs ne d ∙ ap (λ b. if b then faults C2 else literal_step m (after is_number_byte (c ∷ cs)) (literal (run is_number_byte (c ∷ cs)))) f
     ∙ ap (literal_step m (after is_number_byte (c ∷ cs))) e)) refl
-fault_seen {m = m} ne (floating_fraction {c = c} {cs = cs} o p e f) =
-    subst (λ (s : Step). Faulted s C2) (sym (other_at m c cs ne o p ∙ ap (sign_step m (c ∷ cs)) e ∙ ap (λ b. if b then faults C2 else faults C1) f)) refl
-fault_seen {m = m} ne (stray_byte {c = c} {cs = cs} o p e f) =
-    subst (λ (s : Step). Faulted s C1) (sym (other_at m c cs ne o p ∙ ap (sign_step m (c ∷ cs)) e ∙ ap (λ b. if b then faults C2 else faults C1) f)) refl
+fault_seen {m = m} ne (floating_fraction {c = c} {cs = cs} o p n f) =
+    subst (λ (s : Step). Faulted s C2) (sym (other_at m c cs ne o p ∙ ap (sign_step m (c ∷ cs)) (no_mark_is (c ∷ cs) n) ∙ ap (λ b. if b then faults C2 else faults C1) f)) refl
+fault_seen {m = m} ne (stray_byte {c = c} {cs = cs} o p n f) =
+    subst (λ (s : Step). Faulted s C1) (sym (other_at m c cs ne o p ∙ ap (sign_step m (c ∷ cs)) (no_mark_is (c ∷ cs) n) ∙ ap (λ b. if b then faults C2 else faults C1) f)) refl
 
 open_at : (m : Mode) (text : List ℕ) → is_open_comment text ≡ true → step m text ≡ faults C1
 unfolding step

@@ -6,12 +6,12 @@ use Rattle.std.specs.Cmp.Lexicographic.{pointwise}
 use Rattle.vk_types.specs.declared.types.Ty.{Ty}
 use Rattle.vk_tokens.specs.declared.tokens.Mark.{Mark}
 use Rattle.vk_unit_rules.specs.declared.rules.UnitRule.{UnitRule}
-use Rattle.vk_unit_rules.specs.declared.rules.UnitRule.TheVariants.{C1, C2, C4}
+use Rattle.vk_unit_rules.specs.declared.rules.UnitRule.TheVariants.{C1, C2, C3, C4}
 use Rattle.vk_lex.specs.Characters.{is_blank, is_word_byte, is_word_start, run, after, text_of, line_of}
 use Rattle.vk_lex.specs.Comments.{after_comment, is_open_comment}
 use Rattle.vk_lex.specs.Headings.{Heading}
 use Rattle.vk_lex.specs.Literals.{begins_floating, begins_fraction, literal}
-use Rattle.vk_lex.specs.Signs.{mark_text, sign_at}
+use Rattle.vk_lex.specs.Signs.{mark_text, IsLongest, HasNoMark}
 use Rattle.vk_lex.specs.Tokens.{Kind, Tok, word, integer, sign, line_end}
 use Rattle.vk_lex.specs.declared.pieces.Mode.{Mode}
 use Rattle.vk_lex.specs.declared.pieces.Mode.TheVariants.{Start, Inside, Directive, Idle}
@@ -59,7 +59,7 @@ pub data IsToken : (text : List ℕ) → Kind → (rest : List ℕ) → Type 0 w
       → IsToken (c ∷ cs) (word (run is_word_byte (c ∷ cs))) (after is_word_byte (c ∷ cs))
   a_number : {c : ℕ} {cs : List ℕ} {t : Ty} {n : ℕ} → is_ascii_digit c ≡ true → begins_floating (c ∷ cs) ≡ false
       → literal (run is_number_byte (c ∷ cs)) ≡ Ok (t, n) → IsToken (c ∷ cs) (integer t n) (after is_number_byte (c ∷ cs))
-  a_sign : {c : ℕ} {cs : List ℕ} {m : Mark} → IsOther c → IsPlain (c ∷ cs) → sign_at (c ∷ cs) ≡ Some m
+  a_sign : {c : ℕ} {cs : List ℕ} {m : Mark} → IsOther c → IsPlain (c ∷ cs) → IsLongest (c ∷ cs) m
       → IsToken (c ∷ cs) (sign m) (drop (length (mark_text m)) (c ∷ cs))
 
 -- No token, blank, newline, comment or `#` is at the front of the text: the greatest rule that is broken there.
@@ -68,8 +68,8 @@ pub data IsNoToken : (text : List ℕ) → UnitRule → Type 0 where
   floating_number : {c : ℕ} {cs : List ℕ} → is_ascii_digit c ≡ true → begins_floating (c ∷ cs) ≡ true → IsNoToken (c ∷ cs) C2
   no_literal : {c : ℕ} {cs : List ℕ} {r : UnitRule} → is_ascii_digit c ≡ true → begins_floating (c ∷ cs) ≡ false
       → literal (run is_number_byte (c ∷ cs)) ≡ Err r → IsNoToken (c ∷ cs) r
-  floating_fraction : {c : ℕ} {cs : List ℕ} → IsOther c → IsPlain (c ∷ cs) → sign_at (c ∷ cs) ≡ None → begins_fraction (c ∷ cs) ≡ true → IsNoToken (c ∷ cs) C2
-  stray_byte : {c : ℕ} {cs : List ℕ} → IsOther c → IsPlain (c ∷ cs) → sign_at (c ∷ cs) ≡ None → begins_fraction (c ∷ cs) ≡ false → IsNoToken (c ∷ cs) C1
+  floating_fraction : {c : ℕ} {cs : List ℕ} → IsOther c → IsPlain (c ∷ cs) → HasNoMark (c ∷ cs) → begins_fraction (c ∷ cs) ≡ true → IsNoToken (c ∷ cs) C2
+  stray_byte : {c : ℕ} {cs : List ℕ} → IsOther c → IsPlain (c ∷ cs) → HasNoMark (c ∷ cs) → begins_fraction (c ∷ cs) ≡ false → IsNoToken (c ∷ cs) C1
 
 -- ---- pieces
 
@@ -127,3 +127,15 @@ Lexes bytes ts = Reads (line_of bytes) Start (text_of bytes) ts
 
 abbrev pub Refuses : List ℕ → (line : ℕ) → UnitRule → Type 0
 Refuses bytes l r = Fails (line_of bytes) Start (text_of bytes) l r
+
+-- there is a first fault of the bytes
+abbrev pub HasFault : List ℕ → Type 0
+HasFault bytes = (line : ℕ) × (rule : UnitRule) × Refuses bytes line rule
+
+-- the rules on tokens
+abbrev pub IsTokenRule : UnitRule → Type 0
+IsTokenRule C1 = Unit {0}
+IsTokenRule C2 = Unit {0}
+IsTokenRule C3 = Unit {0}
+IsTokenRule C4 = Unit {0}
+IsTokenRule rule = ⊥

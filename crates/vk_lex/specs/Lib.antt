@@ -7,3 +7,4 @@ pub mod Signs
 pub mod Tables
 pub mod Tokens
 pub mod Inner
+pub mod Integers

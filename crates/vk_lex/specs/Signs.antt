@@ -1,5 +1,5 @@
 -- Punctuators (C17 6.4.6): each token is the longest one that the text begins with (C17 6.4).
-use Rattle.std.specs.Prelude.{ℕ, nat_eq, List, [], ◌∷◌, codes, Option, Some, None, if◌then◌else◌}
+use Rattle.std.specs.Prelude.{◌≡◌, ◌≤◌, ℕ, nat_eq, Bool, true, false, List, length, codes}
 use Rattle.std.specs.List.{starts_with}
 use Rattle.vk_tokens.specs.declared.tokens.Mark.{Mark}
 use Rattle.vk_tokens.specs.declared.tokens.Mark.TheVariants.{OpenParen, CloseParen, OpenBracket, CloseBracket, OpenBrace, CloseBrace, Semicolon, Comma, Question, Colon, Assign, AddAssign, SubAssign, MulAssign, DivAssign, RemAssign, AndAssign, OrAssign, XorAssign, ShlAssign, ShrAssign, Increment, Decrement, Plus, Minus, Star, Slash, Percent, Ampersand, Bar, Caret, Tilde, Bang, ShiftLeft, ShiftRight, EqualEqual, NotEqual, Less, Greater, LessEqual, GreaterEqual, AndAnd, OrOr}
@@ -49,18 +49,15 @@ mark_text GreaterEqual = codes ">="
 mark_text AndAnd = codes "&&"
 mark_text OrOr = codes "||"
 
--- all of them, longer ones first
-abbrev pub marks : List Mark
-marks = ShlAssign ∷ ShrAssign
-    ∷ AddAssign ∷ SubAssign ∷ MulAssign ∷ DivAssign ∷ RemAssign ∷ AndAssign ∷ OrAssign ∷ XorAssign ∷ Increment ∷ Decrement
-    ∷ ShiftLeft ∷ ShiftRight ∷ EqualEqual ∷ NotEqual ∷ LessEqual ∷ GreaterEqual ∷ AndAnd ∷ OrOr
-    ∷ OpenParen ∷ CloseParen ∷ OpenBracket ∷ CloseBracket ∷ OpenBrace ∷ CloseBrace ∷ Semicolon ∷ Comma ∷ Question ∷ Colon
-    ∷ Assign ∷ Plus ∷ Minus ∷ Star ∷ Slash ∷ Percent ∷ Ampersand ∷ Bar ∷ Caret ∷ Tilde ∷ Bang ∷ Less ∷ Greater ∷ []
-
-abbrev pub first_front : List Mark → List ℕ → Option Mark
-first_front [] text = None
-first_front (m ∷ ms) text = if starts_with nat_eq text (mark_text m) then Some m else first_front ms text
+-- the text begins with this punctuator
+abbrev pub begins_mark : Mark → List ℕ → Bool
+begins_mark m text = starts_with nat_eq text (mark_text m)
 
 -- the longest punctuator with which the text begins
-unfoldable pub sign_at : List ℕ → Option Mark
-sign_at text = first_front marks text
+pub record IsLongest (text : List ℕ) (m : Mark) : Type 0 where
+  pub begins : begins_mark m text ≡ true
+  pub longest : (other : Mark) → begins_mark other text ≡ true → length (mark_text other) ≤ length (mark_text m)
+
+-- the text begins with no punctuator
+abbrev pub HasNoMark : List ℕ → Type 0
+HasNoMark text = (m : Mark) → begins_mark m text ≡ false

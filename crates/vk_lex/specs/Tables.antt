@@ -36,3 +36,7 @@ pub record AreTokens (bytes : List ℕ) (names : List (List ℕ)) (ts : List Tok
   pub named : All (λ t. IsNamed names t.kind) ts
   pub distinct : AreDistinct names
   pub order : names ≡ names_of (map (tok_of names) ts)
+
+-- the bytes have tokens, with a table of their names
+abbrev pub HasTokens : List ℕ → Type 0
+HasTokens bytes = (names : List (List ℕ)) × (ts : List Token) × AreTokens bytes names ts

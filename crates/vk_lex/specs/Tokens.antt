@@ -72,7 +72,6 @@ with_name names line_end = names
 pub record Grows (old new : List (List ℕ)) (kind : Kind) : Type 0 where
   pub exact : new ≡ with_name old kind
   pub keeps : (k : ℕ) (text : List ℕ) → slice_get old k ≡ Some text → slice_get new k ≡ Some text
-  pub only : (k : ℕ) (text : List ℕ) → slice_get new k ≡ Some text → (slice_get old k ≡ Some text) ⊎ (kind ≡ word text)
   pub most : length new ≤ length old + 1
 
 -- a list of tokens and a table of names, with one token more

@@ -17,6 +17,3 @@ pub mod signs;
 pub use reader::lex;
 pub use vk_tokens::{Mark, Token, TokenKind, Tokens};
 pub use vk_unit_rules::{UnitFail, UnitRule};
-
-#[cfg(test)]
-mod tests;

@@ -1,11 +1,9 @@
 // The tokens of a unit.
 
-ghost use Rattle.std.specs.Prelude.{◌≡◌, ◌<◌, ◌≤◌, ℕ, List, map, length, IfOk, IfErr, OnOk, OnErr, MatchResult};
-ghost use Rattle.std.specs.List.{All};
-ghost use Rattle.vk_ast.specs.Names.{AreDistinct};
+ghost use Rattle.std.specs.Prelude.{◌≡◌, ◌<◌, ◌≤◌, ℕ, List, length, IfOk, IfErr, OnOk, OnErr, MatchResult};
 ghost use Rattle.vk_lex.specs.Characters.{characters as characters_in, last_line, line_of, lines_of};
 ghost use Rattle.vk_tokens.specs.Names.{IsNamed};
-ghost use Rattle.vk_lex.specs.Tokens.{Tok, found_kind, kind_of, tok_of, AreIdentifiers, Grows, Tells};
+ghost use Rattle.vk_lex.specs.Tokens.{Tok, found_kind, kind_of, Grows, Tells};
 ghost use Rattle.std.specs.Option.{option_map};
 ghost use Rattle.vk_unit_rules.specs.declared.rules.UnitFail.TheVariants.{Memory as MemoryFail};
 ghost use Rattle.vk_lex.specs.Lexing.{Lexes, Refuses};
@@ -81,18 +79,12 @@ fn push_found(
 /// C2 for a floating literal or type, C3 for a literal that no type holds, C4 for another line that begins with `#`.
 pub fn lex(alloc: Global, bytes: &[u8]) -> Result<Tokens, UnitFail>
     requires { length bytes.now ≤ 1048576 }
-    // The tokens are those of the bytes, and no others are.
-    ensures found { IfOk result (λ ts. Lexes bytes.now (map (tok_of ts.names) ts.list.items)) }
-    ensures every { (all : List Tok) → Lexes bytes.now all → IsTokensOrMemory result all }
-    // They and the table are the bytes' own: each name once, in the order in which they appear first.
+    // The tokens and the table of their names are those of the bytes, and no others are.
     ensures tokens { IfOk result (λ ts. AreTokens bytes.now ts.names ts.list.items) }
+    ensures every { (all : List Tok) → Lexes bytes.now all → IsTokensOrMemory result all }
     // The fault is the first of the bytes.
     ensures fault { IfErr result (λ fail. IsFaultOrMemory fail (Refuses bytes.now)) }
     ensures every_fault { (line : ℕ) (rule : UnitRuleOf) → Refuses bytes.now line rule → IsRefusedOrMemory result line rule }
-    // Each name is in the table, once, and is an identifier.
-    ensures named { IfOk result (λ ts. All (λ t. IsNamed ts.names t.kind) ts.list.items) }
-    ensures distinct { IfOk result (λ ts. AreDistinct ts.names) }
-    ensures identifiers { IfOk result (λ ts. AreIdentifiers ts.names) }
     ensures last { IfOk result (λ ts. ts.last ≡ last_line bytes.now) }
     ensures count { IfOk result (λ ts. length ts.list.items ≤ length bytes.now) }
     ensures few { IfOk result (λ ts. length ts.names ≤ length ts.list.items) }

@@ -2,7 +2,8 @@
 
 ghost use Rattle.std.specs.Prelude.{◌≡◌, ◌≤◌, drop, length, IfSome};
 ghost use Rattle.std.specs.Option.{option_map};
-ghost use Rattle.vk_lex.specs.Signs.{first_front, mark_text, sign_at};
+ghost use Rattle.vk_lex.specs.Signs.{mark_text};
+ghost use Rattle.vk_lex.specs.Inner.Signs.{first_front, sign_at};
 
 use vk_tokens::Mark;
 
@@ -54,7 +55,7 @@ const MARKS: [Mark; 43] = [
 ];
 
 /// The text of a punctuator.
-pub(crate) fn mark_text(mark: Mark) -> &'static [u8]
+pub fn mark_text(mark: Mark) -> &'static [u8]
     ensures { result.now ≡ mark_text mark }
 {
     match mark {
@@ -118,7 +119,7 @@ fn first_front(marks: &[Mark], text: &[u8]) -> Option<Mark>
 }
 
 // The longest punctuator with which the text begins.
-#[tactic(auto, unfolding(crate::specs::Signs::sign_at))]
+#[tactic(auto, unfolding(crate::specs::Inner::Signs::sign_at))]
 fn sign_at(text: &[u8]) -> Option<Mark>
     ensures mark { result ≡ sign_at text.now }
     ensures within { IfSome result (λ m. length (mark_text m) ≤ length text.now) }

@@ -7,6 +7,3 @@ pub mod table;
 mod unit;
 
 pub use unit::parse;
-
-#[cfg(test)]
-mod tests;

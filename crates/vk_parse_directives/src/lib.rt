@@ -9,6 +9,3 @@ pub mod miss;
 pub mod words;
 
 pub use directives::{read_clauses, read_directive};
-
-#[cfg(test)]
-mod tests;

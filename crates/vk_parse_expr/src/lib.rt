@@ -12,6 +12,3 @@ pub mod words;
 pub use fail::{Read, ReadFail};
 pub use nodes::{High, Start};
 pub use read::{read_expr, read_full, read_onwards, read_unary};
-
-#[cfg(test)]
-mod tests;

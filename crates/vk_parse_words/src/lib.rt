@@ -8,8 +8,3 @@ pub mod words;
 
 pub use faults::first_word_fault;
 pub use lines::{Syms, classify};
-
-#[cfg(test)]
-mod fault_tests;
-#[cfg(test)]
-mod tests;

@@ -55,9 +55,6 @@ whole c =
     lexed bytes c.loop-rest.names list c.loop-rest.mode old c.push_found-2.new.list.items c.push_found-2.new.names k (sym c.ended.ensures)
     (subst (λ (l : ℕ). Tells k l list c.push_found-2.new.list.items c.loop-rest.names c.push_found-2.new.names) line c.in_ok-push_found-2.ensures.tells)
 
-pub returns-clause-found : goal.returns-clause-found
-returns-clause-found c = (whole c).lexes
-
 pub returns-clause-tokens : goal.returns-clause-tokens
 returns-clause-tokens c =
     let all = whole c in
@@ -68,12 +65,6 @@ returns-clause-every c = λ all reads. lexes_only c.args.bytes.now _ all (whole 
 
 pub returns-clause-every_fault : goal.returns-clause-every_fault
 returns-clause-every_fault c = λ line rule refuses. lexes_or_refuses c.args.bytes.now _ line rule (whole c).lexes refuses
-
-pub returns-clause-named : goal.returns-clause-named
-returns-clause-named c = (whole c).named
-
-pub returns-clause-identifiers : goal.returns-clause-identifiers
-returns-clause-identifiers c = (whole c).identifiers
 
 pub returns-clause-count : goal.returns-clause-count
 returns-clause-count c = (whole c).count

@@ -1,5 +1,5 @@
 use Rattle.std.proofs.Common.{◌≡◌, drop}
-use Rattle.vk_lex.specs.Signs.{first_front}
+use Rattle.vk_lex.specs.Inner.Signs.{first_front}
 use Rattle.vk_lex.proofs.signs.first_front.Given as goal
 
 abbrev pub invariant-loop-mark : goal.invariant-loop-mark
