@@ -10,8 +10,6 @@ pub mod steps;
 pub mod words;
 
 pub use fail::{Read, ReadFail};
-pub use nodes::{High, Start};
+pub use nodes::High;
 pub use read::{read_expr, read_full, read_onwards, read_unary};
-
-#[cfg(test)]
-mod tests;
+pub use vk_nodes::Start;

@@ -13,5 +13,3 @@ pub mod signs;
 pub use directives::Directives;
 pub use read::read_body;
 
-#[cfg(test)]
-mod tests;

@@ -11,5 +11,3 @@ mod words;
 
 pub use read::read_unit;
 
-#[cfg(test)]
-mod tests;
