@@ -1,13 +1,14 @@
 // Statements (C17 6.8) and lists of them.
 
-ghost use Rattle.std.specs.Prelude.{◌≡◌, [], ◌∷◌, ◌++◌, IfOk};
-ghost use Rattle.std.specs.Option.{option_map};
+ghost use Rattle.std.specs.Prelude.{◌≡◌, [], ◌∷◌, ◌++◌, length, IfOk};
+ghost use Rattle.std.specs.Option.{option_map, option_to_list};
 ghost use Rattle.vk_ast.specs.Directives.{directive_of};
 ghost use Rattle.vk_ast.specs.Statements.{stmt_of, list_stmts, stmt_kind_of};
 ghost use Rattle.vk_ast.specs.Statements as tree;
 ghost use Rattle.vk_ast.specs.Tree.{expr_of};
 
 use crate::expressions::ExprBox;
+use crate::lists::append;
 use crate::start::Start;
 use std::alloc::Global;
 use std::marker::Model;
@@ -43,6 +44,13 @@ impl StmtBox {
             token: first.token,
             kind,
         };
+        StmtBox::of(alloc, stmt)
+    }
+
+    /// The statement, on the heap.
+    pub fn of(alloc: Global, stmt: Stmt) -> Result<StmtBox, Memory>
+        ensures { IfOk result (λ s. s ≡ stmt) }
+    {
         Ok(StmtBox {
             stmt: Box::new(alloc, stmt)?,
         })
@@ -174,6 +182,20 @@ impl StmtBox {
         StmtBox::new(alloc, start, kind)
     }
 
+    /// A `break`.
+    pub fn break_loop(alloc: Global, first: Start) -> Result<StmtBox, Memory>
+        ensures { IfOk result (λ s. stmt_of s ≡ tree.break_loop first.line first.token) }
+    {
+        StmtBox::new(alloc, first, StmtKind::Break)
+    }
+
+    /// A `continue`.
+    pub fn continue_loop(alloc: Global, first: Start) -> Result<StmtBox, Memory>
+        ensures { IfOk result (λ s. stmt_of s ≡ tree.continue_loop first.line first.token) }
+    {
+        StmtBox::new(alloc, first, StmtKind::Continue)
+    }
+
     /// A `return`.
     pub fn return_value(
         alloc: Global,
@@ -235,6 +257,20 @@ impl StmtList {
         }
     }
 
+    /// How many there are.
+    pub fn len(&self) -> usize
+        ensures { result ≡ length self.now }
+    {
+        self.list.len()
+    }
+
+    /// The last one, which is taken away.
+    pub fn pop(&mut self) -> Option<Stmt>
+        ensures { self.old ≡ self.new ++ option_to_list result }
+    {
+        self.list.pop()
+    }
+
     /// Adds one behind the others.
     pub fn push(&mut self, stmt: StmtBox) -> Result<(), Memory>
         ensures { IfOk result (λ _. self.new ≡ self.old ++ stmt ∷ []) }
@@ -247,7 +283,6 @@ impl StmtList {
     pub fn append(&mut self, more: StmtList) -> Result<(), Memory>
         ensures { IfOk result (λ _. self.new ≡ self.old ++ more) }
     {
-        self.list.extend(more.list)?;
-        Ok(())
+        append(&mut self.list, more.list)
     }
 }

@@ -3,7 +3,6 @@
 
 pub mod acts;
 pub mod directives;
-pub mod lists;
 pub mod locals;
 mod nodes;
 pub mod read;
@@ -12,4 +11,3 @@ pub mod signs;
 
 pub use directives::Directives;
 pub use read::read_body;
-

@@ -10,4 +10,3 @@ pub mod read;
 mod words;
 
 pub use read::read_unit;
-
