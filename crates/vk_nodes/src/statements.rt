@@ -1,6 +1,6 @@
 // Statements (C17 6.8) and lists of them.
 
-ghost use Rattle.std.specs.Prelude.{◌≡◌, [], ◌∷◌, ◌++◌, length, IfOk};
+ghost use Rattle.std.specs.Prelude.{◌≡◌, ◌<◌, ◌↔◌, [], ◌∷◌, ◌++◌, length, IfOk, IsSome};
 ghost use Rattle.std.specs.Option.{option_map, option_to_list};
 ghost use Rattle.vk_ast.specs.Directives.{directive_of};
 ghost use Rattle.vk_ast.specs.Statements.{stmt_of, list_stmts, stmt_kind_of};
@@ -266,7 +266,8 @@ impl StmtList {
 
     /// The last one, which is taken away.
     pub fn pop(&mut self) -> Option<Stmt>
-        ensures { self.old ≡ self.new ++ option_to_list result }
+        ensures items { self.old ≡ self.new ++ option_to_list result }
+        ensures some { IsSome result ↔ (0 < length self.old) }
     {
         self.list.pop()
     }

@@ -30,6 +30,7 @@ pub(crate) fn block_node(alloc: Global, first: Start, list: StmtList) -> Result<
 }
 
 /// The statement that several are where one is wanted: a block of them that begins at `first`.
+#[tactic(auto, using(crate::proofs::Blocks::single_of_one, crate::proofs::Blocks::single_of_several))]
 pub(crate) fn single_node(
     alloc: Global,
     first: Start,
@@ -37,10 +38,11 @@ pub(crate) fn single_node(
 ) -> Result<StmtBox, ReadFail>
     ensures { Makes result (single first.line first.token (map stmt_of list)) }
 {
-    if list.len() == 1 {
-        if let Some(only) = list.pop() {
-            return Ok(StmtBox::of(alloc, only)?);
-        }
+    if list.len() != 1 {
+        return block_node(alloc, first, list);
     }
-    block_node(alloc, first, list)
+    let Some(only) = list.pop() else {
+        return block_node(alloc, first, list);
+    };
+    Ok(StmtBox::of(alloc, only)?)
 }

@@ -3,7 +3,7 @@ use Rattle.vk_parse_directives.proofs.Conds.{cond_found, cond_none}
 use Rattle.vk_parse_directives.proofs.clauses.cond.Goals as goal
 
 pub returns-in-Ok : goal.returns-in-Ok
-returns-in-Ok c = cond_found c.args.syms.now _ _ c.in-Ok.ensures.found c.in-Ok.ensures.within
+returns-in-Ok c = rw c.into_expr.ensures (cond_found c.args.syms.now _ _ c.in-Ok.ensures.found c.in-Ok.ensures.within)
 
 pub returns-in-Err-Syntax : goal.returns-in-Err-Syntax
 returns-in-Err-Syntax c = cond_none c.args.syms.now (λ e h s low. let memory = sym c.in-Err-Syntax.field-0-is ∙ c.in-Err-Syntax.ensures.only e h s low in cc)
