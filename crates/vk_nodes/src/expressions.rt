@@ -92,12 +92,7 @@ impl ExprBox {
     }
 
     /// An operator before its operand.
-    pub fn unary(
-        alloc: Global,
-        first: Start,
-        op: UnOp,
-        operand: ExprBox,
-    ) -> Result<ExprBox, Memory>
+    pub fn unary(alloc: Global, first: Start, op: UnOp, operand: ExprBox) -> Result<ExprBox, Memory>
         ensures { IfOk result (λ e. expr_of e ≡ tree.unary first.line first.token op (expr_of operand)) }
     {
         ExprBox::new(alloc, first, ExprKind::Unary(op, operand.expr))

@@ -12,11 +12,11 @@ use crate::nodes::unit_node;
 use crate::signs::{assign_at, step_at};
 use std::alloc::Global;
 use vk_ast::BinOp;
+use vk_grammar_expr::Sym;
+use vk_nodes::{ExprBox, Start, StmtBox};
 use vk_parse_expr::signs::{is_sign, kind_at, start_at, start_of};
 use vk_parse_expr::steps::{expect, take};
 use vk_parse_expr::{High, Read, read_full, read_onwards, read_unary};
-use vk_grammar_expr::Sym;
-use vk_nodes::{ExprBox, Start, StmtBox};
 use vk_tokens::Mark;
 
 /// `( cond )`
@@ -80,13 +80,7 @@ fn assigned(
 
 // At `++` or `--` behind the place, which begins at `first`.
 #[tactic(auto, unfolding(vk_grammar_stmt::specs::Inner::Reading::stepped))]
-fn stepped(
-    alloc: Global,
-    first: Start,
-    place: High,
-    op: BinOp,
-    syms: &[Sym],
-) -> Read<'_, StmtBox>
+fn stepped(alloc: Global, first: Start, place: High, op: BinOp, syms: &[Sym]) -> Read<'_, StmtBox>
     ensures value { (turns : ℕ) → ReadsStmt result (spec.stepped 63 turns first.line first.token (seen place) op syms.now) }
     ensures shorter { IfOk result (λ x. length x.1.now ≤ length syms.now) }
 {
@@ -187,8 +181,5 @@ pub fn returned(alloc: Global, syms: &[Sym]) -> Read<'_, StmtBox>
 {
     let (first, rest) = take(syms)?;
     let (value, rest) = optional(alloc, Mark::Semicolon, rest)?;
-    Ok((
-        StmtBox::return_value(alloc, start_of(&first), value)?,
-        rest,
-    ))
+    Ok((StmtBox::return_value(alloc, start_of(&first), value)?, rest))
 }

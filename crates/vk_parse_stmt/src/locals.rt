@@ -11,12 +11,12 @@ use crate::nodes::single_node;
 use crate::signs::{has_const, name_at};
 use std::alloc::Global;
 use vk_ast::NameId;
+use vk_grammar_expr::Sym;
+use vk_nodes::{ExprBox, StmtBox, StmtList};
 use vk_parse_expr::signs::{is_sign, kind_at, start_at, start_of};
 use vk_parse_expr::steps::{expect, take};
 use vk_parse_expr::words::{type_in, type_words};
 use vk_parse_expr::{Read, ReadFail, read_full};
-use vk_grammar_expr::Sym;
-use vk_nodes::{ExprBox, StmtBox, StmtList};
 use vk_tokens::Mark;
 use vk_types::Ty;
 

@@ -7,10 +7,10 @@ ghost use Rattle.vk_parse_stmt.specs.Inner.Answers.{ReadsStmt};
 use crate::directives::Directives;
 use crate::reader::statement;
 use std::alloc::Global;
-use vk_parse_expr::signs::{is_sign, kind_at};
-use vk_parse_expr::{Read, ReadFail};
 use vk_grammar_expr::Sym;
 use vk_nodes::StmtBox;
+use vk_parse_expr::signs::{is_sign, kind_at};
+use vk_parse_expr::{Read, ReadFail};
 use vk_tokens::Mark;
 
 // A function's block, and 64 statements one in the other within it.

@@ -18,11 +18,11 @@ use crate::locals::{locals, one_locals};
 use crate::nodes::block_node;
 use crate::signs::{expect_word, is_keyword, is_stmt_start};
 use std::alloc::Global;
+use vk_grammar_expr::{Keyword, Sym, SymKind};
+use vk_nodes::{ExprBox, StmtBox, StmtList};
 use vk_parse_expr::signs::{is_sign, is_type_part, kind_at, start_of};
 use vk_parse_expr::steps::{expect, take};
 use vk_parse_expr::{Read, ReadFail};
-use vk_grammar_expr::{Keyword, Sym, SymKind};
-use vk_nodes::{ExprBox, StmtBox, StmtList};
 use vk_tokens::Mark;
 
 // Where no level may stand: too deep where a statement begins.

@@ -16,15 +16,15 @@ use crate::params::params;
 use crate::words::{extern_word, name};
 use std::alloc::Global;
 use vk_ast::{Item, ParamDecl};
+use vk_grammar_expr::{Keyword, Sym};
+use vk_kinds::CType;
+use vk_nodes::{DirectiveList, ItemList, StmtBox};
 use vk_parse_expr::signs::{is_sign, kind_at};
 use vk_parse_expr::steps::{expect, take};
 use vk_parse_expr::words::{type_in, type_words};
 use vk_parse_expr::{Read, ReadFail};
-use vk_grammar_expr::{Keyword, Sym};
-use vk_kinds::CType;
 use vk_parse_stmt::signs::{has_const, is_keyword};
 use vk_parse_stmt::{Directives, read_body};
-use vk_nodes::{DirectiveList, ItemList, StmtBox};
 use vk_tokens::Mark;
 
 // The block of a function, each of whose parameters has to have a name.

@@ -8,11 +8,11 @@ ghost use Rattle.vk_grammar_unit.specs.Inner.Reading as spec;
 use crate::words::{is_line, line_at};
 use std::alloc::Global;
 use vk_ast::Directive;
+use vk_grammar_expr::Sym;
+use vk_nodes::DirectiveList;
 use vk_parse_expr::signs::kind_at;
 use vk_parse_expr::steps::take;
 use vk_parse_expr::{Read, ReadFail};
-use vk_grammar_expr::Sym;
-use vk_nodes::DirectiveList;
 use vk_parse_stmt::Directives;
 
 // The directive of a line.

@@ -11,12 +11,12 @@ use crate::nodes::{Initial, Named, ObjectType, no_initial, object_node};
 use crate::words::name;
 use std::alloc::Global;
 use vk_ast::Item;
+use vk_grammar_expr::Sym;
+use vk_nodes::{ExprBox, ExprList, ItemList};
 use vk_parse_expr::signs::{is_sign, kind_at, start_at};
 use vk_parse_expr::steps::{expect, take};
 use vk_parse_expr::{Read, read_full};
-use vk_grammar_expr::Sym;
 use vk_parse_stmt::acts::optional;
-use vk_nodes::{ExprBox, ExprList, ItemList};
 use vk_tokens::Mark;
 
 // `[ "[" [cond] "]" ]`

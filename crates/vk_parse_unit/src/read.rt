@@ -11,10 +11,10 @@ ghost use Rattle.vk_parse_expr.specs.Inner.Answers.{Gives};
 use crate::functions::next_item;
 use std::alloc::Global;
 use vk_ast::Item;
-use vk_parse_expr::ReadFail;
 use vk_grammar_expr::Sym;
-use vk_parse_stmt::Directives;
 use vk_nodes::ItemList;
+use vk_parse_expr::ReadFail;
+use vk_parse_stmt::Directives;
 
 fn whole<D: Directives>(alloc: Global, directives: &D, syms: &[Sym]) -> Result<ItemList, ReadFail>
     ensures { (turns : ℕ) → length syms.now < turns

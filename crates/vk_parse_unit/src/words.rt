@@ -9,10 +9,10 @@ ghost use Rattle.vk_parse_unit.specs.Inner.Answers.{named_of, qualifier_count};
 
 use crate::nodes::Named;
 use vk_ast::NameId;
+use vk_grammar_expr::{Keyword, Sym, SymKind};
 use vk_parse_expr::signs::kind_at;
 use vk_parse_expr::steps::take;
 use vk_parse_expr::{Read, ReadFail};
-use vk_grammar_expr::{Keyword, Sym, SymKind};
 use vk_parse_stmt::signs::{is_keyword, name_at};
 
 /// Whether `const` or `restrict` stands here.
