@@ -37,7 +37,7 @@ fn cond(alloc: Global, syms: &[Sym]) -> Result<Expr, Miss>
         return Err(Miss::NoForm);
     }
     match read_expr(alloc, syms) {
-        Ok(High { expr, height: _ }) => Ok(expr),
+        Ok(High { expr, height: _ }) => Ok(expr.into_expr()),
         Err(ReadFail::Memory) => Err(Miss::Memory),
         Err(ReadFail::Syntax(_)) => Err(Miss::NoForm),
         Err(ReadFail::Deep(_)) => Err(Miss::NoForm),

@@ -5,6 +5,7 @@ ghost use Rattle.vk_parse_expr.specs.declared.fail.ReadFail.TheVariants.{Memory 
 
 use std::alloc::{AllocError, AllocFailed};
 use vk_grammar_expr::Sym;
+use vk_memory::Memory;
 
 /// Why no expression was read. A place is told as the number of tokens that are left from it on: 0 is the end.
 #[derive(Clone, Copy, PartialEq, Eq, Debug)]
@@ -19,6 +20,14 @@ pub enum ReadFail {
 
 /// What was read at the front of tokens, and the tokens behind it.
 pub type Read<'a, T> = Result<(T, &'a [Sym]), ReadFail>;
+
+impl From<Memory> for ReadFail {
+    ghost from_gives = { λ _ fail. fail ≡ MemoryFail };
+
+    fn from(_: Memory) -> ReadFail {
+        ReadFail::Memory
+    }
+}
 
 impl From<AllocError> for ReadFail {
     ghost from_gives = { λ _ fail. fail ≡ MemoryFail };

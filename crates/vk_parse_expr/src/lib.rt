@@ -10,5 +10,6 @@ pub mod steps;
 pub mod words;
 
 pub use fail::{Read, ReadFail};
-pub use nodes::{High, Start};
+pub use nodes::High;
 pub use read::{read_expr, read_full, read_onwards, read_unary};
+pub use vk_nodes::Start;

@@ -8,10 +8,11 @@ ghost use Rattle.vk_grammar_expr.specs.Texts.{IsPlace, IsDeepPlace};
 ghost use Rattle.vk_parse_expr.specs.Inner.Answers.{seen, Gives, Reads};
 
 use crate::fail::{Read, ReadFail};
-use crate::nodes::{High, Start};
+use crate::nodes::High;
 use crate::reader::{expression, onwards, operand};
 use std::alloc::Global;
 use vk_grammar_expr::Sym;
+use vk_nodes::Start;
 
 // The most levels of an expression.
 const MOST_LEVELS: u32 = 64;

@@ -11,7 +11,7 @@ ghost use Rattle.vk_parse_expr.specs.Inner.Answers.{seen, Gives, Reads, summed};
 
 use crate::fail::{Read, ReadFail};
 use crate::nodes::{
-    Arguments, High, Start, binary_node, call_node, cast_node, choice_node, index_node, int_node,
+    Arguments, High, binary_node, call_node, cast_node, choice_node, index_node, int_node,
     name_node, prefix_node,
 };
 use crate::signs::{
@@ -22,6 +22,7 @@ use crate::words::{type_in, type_words};
 use std::alloc::Global;
 use vk_ast::{BinOp, NameId};
 use vk_grammar_expr::{Prefix, Sym, SymKind};
+use vk_nodes::{ExprList, Start};
 use vk_tokens::Mark;
 
 // Where no level may stand: too deep where an expression begins.
@@ -79,13 +80,13 @@ pub(crate) fn operand(alloc: Global, below: u32, n: u32, syms: &[Sym]) -> Read<'
 fn arguments(alloc: Global, below: u32, syms: &[Sym]) -> Read<'_, Arguments>
     requires { below < 64 }
     ensures value { (turns : ℕ) → length syms.now < turns
-        → Gives (λ x. ((exprs_of x.0.list.items, x.0.height), x.1.now)) result (summed (spec.arguments below turns (spec.expression turns below)) syms.now) }
+        → Gives (λ x. ((exprs_of x.0.list, x.0.height), x.1.now)) result (summed (spec.arguments below turns (spec.expression turns below)) syms.now) }
     ensures shorter { IfOk result (λ x. length x.1.now ≤ length syms.now) }
     ensures high { IfOk result (λ x. x.0.height ≤ below) }
 {
     if is_sign(Mark::CloseParen, kind_at(syms)) {
         let none = Arguments {
-            list: Vec::new(alloc),
+            list: ExprList::new(alloc),
             height: 0,
         };
         return Ok((none, syms));
@@ -98,13 +99,13 @@ fn arguments(alloc: Global, below: u32, syms: &[Sym]) -> Read<'_, Arguments>
 fn some_arguments(alloc: Global, below: u32, syms: &[Sym]) -> Read<'_, Arguments>
     requires { below < 64 }
     ensures value { (turns : ℕ) → length syms.now < turns
-        → Gives (λ x. ((exprs_of x.0.list.items, x.0.height), x.1.now)) result (summed (spec.some_arguments below turns (spec.expression turns below)) syms.now) }
+        → Gives (λ x. ((exprs_of x.0.list, x.0.height), x.1.now)) result (summed (spec.some_arguments below turns (spec.expression turns below)) syms.now) }
     ensures shorter { IfOk result (λ x. length x.1.now ≤ length syms.now) }
     ensures high { IfOk result (λ x. x.0.height ≤ below) }
 {
     let (first, mut rest) = expression(alloc, below, syms)?;
     let mut height = first.height;
-    let mut list = Vec::new(alloc);
+    let mut list = ExprList::new(alloc);
     list.push(first.expr)?;
     'arguments: while is_sign(Mark::Comma, kind_at(rest)) {
         let (argument, after) = match later_argument(alloc, below, rest) {
@@ -144,7 +145,7 @@ fn call_of(alloc: Global, below: u32, first: Sym, id: NameId, syms: &[Sym]) -> R
     let (_, rest) = take(syms)?;
     let (list, rest) = arguments(alloc, below, rest)?;
     let (_, rest) = expect(Mark::CloseParen, rest)?;
-    Ok((call_node(first, id, list), rest))
+    Ok((call_node(alloc, first, id, list)?, rest))
 }
 
 // Behind a name: a call, or the name alone.
@@ -160,7 +161,7 @@ fn named(alloc: Global, below: u32, first: Sym, id: NameId, syms: &[Sym]) -> Rea
     if is_sign(Mark::OpenParen, kind_at(syms)) {
         call_of(alloc, below, first, id, syms)
     } else {
-        Ok((name_node(first, id), syms))
+        Ok((name_node(alloc, first, id)?, syms))
     }
 }
 
@@ -177,7 +178,7 @@ fn atom(alloc: Global, below: u32, syms: &[Sym]) -> Read<'_, High>
     match kind_at(syms) {
         Some(SymKind::Int(ty, value)) => {
             let (first, rest) = take(syms)?;
-            Ok((int_node(first, ty, value), rest))
+            Ok((int_node(alloc, first, ty, value)?, rest))
         }
         Some(SymKind::Name(id)) => {
             let (first, rest) = take(syms)?;

@@ -3,9 +3,9 @@
 ghost use Rattle.std.specs.Prelude.{◌≡◌, ◌≤◌, ◌<◌, IfSome};
 ghost use Rattle.vk_grammar_expr.specs.Symbols as spec;
 
-use crate::nodes::Start;
 use vk_ast::{BinOp, UnOp};
 use vk_grammar_expr::{Keyword, Operator, Prefix, Sym, SymKind};
+use vk_nodes::Start;
 use vk_tokens::Mark;
 
 /// The kind of the first token.

@@ -1,13 +1,13 @@
 -- Lists of statements in blocks, as the grammar and the trees see them.
-use Rattle.std.proofs.Common.{◌≡◌, ℕ, ◌+◌, ◌<◌, ◌≤◌, true, false, List, [], ◌∷◌, ◌++◌, length, map, Result, Ok, refl, sym, ap, ◌∙◌}
+use Rattle.std.proofs.Common.{◌≡◌, ℕ, ◌+◌, ◌<◌, ◌≤◌, true, false, List, [], ◌∷◌, ◌++◌, length, map, Result, Ok, refl, sym, ap, ◌∙◌, arith, length-append}
 use Rattle.std.proofs.lemmas.List.{append-nil, append_assoc, map-append}
 use Rattle.vk_ast.specs.declared.statements.Stmt.{Stmt}
-use Rattle.vk_ast.specs.Statements.{StmtTree, more_stmts, stmt_of, list_stmts}
+use Rattle.vk_ast.specs.Statements.{StmtTree, block, more_stmts, stmt_of, list_stmts}
 use Rattle.vk_tokens.specs.declared.tokens.Mark.TheVariants as mark
 use Rattle.vk_grammar_expr.specs.declared.symbols.Sym.{Sym}
 use Rattle.vk_grammar_expr.specs.Symbols.{head}
 use Rattle.vk_grammar_expr.specs.Inner.Parser.{Fault, pure, then_do, many}
-use Rattle.vk_grammar_stmt.specs.Trees.{Clauses, stmts_in, joined}
+use Rattle.vk_grammar_stmt.specs.Trees.{Clauses, stmts_in, joined, single}
 use Rattle.vk_grammar_stmt.specs.Inner.Reading.{entry, is_not}
 use Rattle.vk_parse_expr.specs.declared.fail.ReadFail.{ReadFail}
 use Rattle.vk_parse_expr.specs.declared.fail.ReadFail.TheVariants as fails
@@ -18,6 +18,16 @@ use Rattle.vk_parse_stmt.proofs.Loops.{Going, begun, turned, stopped, done}
 pub list_in : (ss : List Stmt) → list_stmts ss ≡ stmts_in (map stmt_of ss)
 list_in [] = refl
 list_in (s ∷ ss) = ap (more_stmts (stmt_of s)) (list_in ss)
+
+-- one statement alone, and several or none
+pub single_of_one : (l k : ℕ) (list front : List Stmt) (s : Stmt) → length list ≡ 1 → list ≡ front ++ s ∷ [] → single l k (map stmt_of list) ≡ stmt_of s
+single_of_one l k list [] s one is = rw is refl
+single_of_one l k list (x ∷ front) s one is = absurd (omega (arith, one, ap length is, length-append front (s ∷ [])))
+
+pub single_of_several : (l k : ℕ) (list : List Stmt) → (length list ≡ 1 → ⊥) → single l k (map stmt_of list) ≡ block l k (stmts_in (map stmt_of list))
+single_of_several l k [] more = refl
+single_of_several l k (s ∷ []) more = absurd (more refl)
+single_of_several l k (s ∷ (next ∷ rest)) more = refl
 
 joined_push : (lists : List (List StmtTree)) (list : List StmtTree) → joined (lists ++ list ∷ []) ≡ joined lists ++ list
 joined_push [] list = append-nil list

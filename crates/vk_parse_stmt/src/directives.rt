@@ -7,8 +7,8 @@ ghost use Rattle.vk_grammar_stmt.specs.Trees.{directive_at};
 
 use std::alloc::Global;
 use vk_ast::Directive;
-use vk_parse_expr::ReadFail;
 use vk_grammar_expr::Sym;
+use vk_parse_expr::ReadFail;
 
 /// Where the directives of a unit come from.
 pub trait Directives {

@@ -3,7 +3,6 @@
 
 pub mod acts;
 pub mod directives;
-pub mod lists;
 pub mod locals;
 mod nodes;
 pub mod read;

@@ -7,10 +7,10 @@ ghost use Rattle.vk_parse_stmt.specs.Inner.Answers.{ReadsStmt};
 use crate::directives::Directives;
 use crate::reader::statement;
 use std::alloc::Global;
-use vk_ast::Stmt;
+use vk_grammar_expr::Sym;
+use vk_nodes::StmtBox;
 use vk_parse_expr::signs::{is_sign, kind_at};
 use vk_parse_expr::{Read, ReadFail};
-use vk_grammar_expr::Sym;
 use vk_tokens::Mark;
 
 // A function's block, and 64 statements one in the other within it.
@@ -27,7 +27,7 @@ pub fn read_body<'a, D: Directives>(
     alloc: Global,
     directives: &D,
     syms: &'a [Sym],
-) -> Read<'a, Stmt>
+) -> Read<'a, StmtBox>
     ensures value { (turns : ℕ) → length syms.now < turns → ReadsStmt result (body (D.clauses directives.now) 63 turns 65 syms.now) }
     ensures shorter { IfOk result (λ x. length x.1.now + 1 ≤ length syms.now) }
 {

@@ -12,24 +12,21 @@ ghost use Rattle.vk_grammar_stmt.specs.Trees.{Clauses};
 ghost use Rattle.vk_parse_expr.specs.Inner.Answers.{Fails};
 ghost use Rattle.vk_parse_stmt.specs.Inner.Answers.{over, inside, entries, ReadsStmt, ReadsStmts};
 
-use crate::acts::{condition, jump, optional, part, returned};
+use crate::acts::{broken, condition, continued, optional, part, returned};
 use crate::directives::Directives;
-use crate::lists::append;
 use crate::locals::{locals, one_locals};
-use crate::nodes::{
-    block_node, do_node, for_node, if_else_node, if_node, lost_node, simd_node, while_node,
-};
+use crate::nodes::block_node;
 use crate::signs::{expect_word, is_keyword, is_stmt_start};
 use std::alloc::Global;
-use vk_ast::{Expr, Stmt, StmtKind};
+use vk_grammar_expr::{Keyword, Sym, SymKind};
+use vk_nodes::{ExprBox, StmtBox, StmtList};
 use vk_parse_expr::signs::{is_sign, is_type_part, kind_at, start_of};
 use vk_parse_expr::steps::{expect, take};
 use vk_parse_expr::{Read, ReadFail};
-use vk_grammar_expr::{Keyword, Sym, SymKind};
 use vk_tokens::Mark;
 
 // Where no level may stand: too deep where a statement begins.
-#[tactic(auto, unfolding(vk_grammar_stmt::specs::Reading::no_level))]
+#[tactic(auto, unfolding(vk_grammar_stmt::specs::Inner::Reading::no_level))]
 fn no_level(syms: &[Sym]) -> ReadFail
     ensures one { Fails {A = StmtTree × List Sym} result (spec.no_level syms.now) }
     ensures several { Fails {A = List StmtTree × List Sym} result (spec.no_level syms.now) }
@@ -43,13 +40,13 @@ fn no_level(syms: &[Sym]) -> ReadFail
 
 /// A statement of at most `below` levels, where one is wanted.
 #[cycle(reading)]
-#[tactic(auto, unfolding(vk_grammar_stmt::specs::Reading::statement))]
+#[tactic(auto, unfolding(vk_grammar_stmt::specs::Inner::Reading::statement))]
 pub(crate) fn statement<'a, D: Directives>(
     alloc: Global,
     directives: &D,
     below: u32,
     syms: &'a [Sym],
-) -> Read<'a, Stmt>
+) -> Read<'a, StmtBox>
     requires { below ≤ 65 }
     ensures value { (turns : ℕ) → length syms.now < turns → ReadsStmt result (spec.statement (D.clauses directives.now) 63 turns below syms.now) }
     ensures shorter { IfOk result (λ x. length x.1.now + 1 ≤ length syms.now) }
@@ -63,13 +60,13 @@ pub(crate) fn statement<'a, D: Directives>(
 
 // The statements that one in a block makes, of at most `below` levels.
 #[cycle(reading)]
-#[tactic(auto, unfolding(vk_grammar_stmt::specs::Reading::entry))]
+#[tactic(auto, unfolding(vk_grammar_stmt::specs::Inner::Reading::entry))]
 fn entry<'a, D: Directives>(
     alloc: Global,
     directives: &D,
     below: u32,
     syms: &'a [Sym],
-) -> Read<'a, Vec<Stmt>>
+) -> Read<'a, StmtList>
     requires { below ≤ 65 }
     ensures value { (turns : ℕ) → length syms.now < turns → ReadsStmts result (spec.entry (D.clauses directives.now) 63 turns below syms.now) }
     ensures shorter { IfOk result (λ x. length x.1.now + 1 ≤ length syms.now) }
@@ -88,19 +85,19 @@ fn entries<'a, D: Directives>(
     directives: &D,
     below: u32,
     syms: &'a [Sym],
-) -> Read<'a, Vec<Stmt>>
+) -> Read<'a, StmtList>
     requires { below < 65 }
     ensures value { (turns : ℕ) → length syms.now < turns → ReadsStmts result (entries (D.clauses directives.now) below turns syms.now) }
     ensures shorter { IfOk result (λ x. length x.1.now ≤ length syms.now) }
 {
-    let mut list = Vec::new(alloc);
+    let mut list = StmtList::new(alloc);
     let mut rest = syms;
     'entries: while !is_sign(Mark::CloseBrace, kind_at(rest)) {
         let (more, after) = match entry(alloc, directives, below, rest) {
             Ok(read) => read,
             Err(fail) => return Err(fail),
         };
-        append(&mut list, more)?;
+        list.append(more)?;
         rest = after;
     }
     Ok((list, rest))
@@ -108,13 +105,13 @@ fn entries<'a, D: Directives>(
 
 // At a `{`.
 #[cycle(reading)]
-#[tactic(auto, unfolding(vk_grammar_stmt::specs::Reading::block))]
+#[tactic(auto, unfolding(vk_grammar_stmt::specs::Inner::Reading::block))]
 fn block<'a, D: Directives>(
     alloc: Global,
     directives: &D,
     below: u32,
     syms: &'a [Sym],
-) -> Read<'a, Stmt>
+) -> Read<'a, StmtBox>
     requires { below < 65 }
     ensures value { (turns : ℕ) → length syms.now < turns → ReadsStmt result (over spec.block (D.clauses directives.now) below turns syms.now) }
     ensures shorter { IfOk result (λ x. length x.1.now + 1 ≤ length syms.now) }
@@ -122,43 +119,45 @@ fn block<'a, D: Directives>(
     let (first, rest) = take(syms)?;
     let (list, rest) = entries(alloc, directives, below, rest)?;
     let (_, rest) = expect(Mark::CloseBrace, rest)?;
-    Ok((block_node(start_of(&first), list), rest))
+    Ok((block_node(alloc, start_of(&first), list)?, rest))
 }
 
 // Behind the first branch of an `if`.
 #[cycle(reading)]
-#[tactic(auto, unfolding(vk_grammar_stmt::specs::Reading::else_part))]
+#[tactic(auto, unfolding(vk_grammar_stmt::specs::Inner::Reading::else_part))]
 fn else_part<'a, D: Directives>(
     alloc: Global,
     directives: &D,
     below: u32,
     first: Sym,
-    condition: Expr,
-    yes: Stmt,
+    condition: ExprBox,
+    yes: StmtBox,
     syms: &'a [Sym],
-) -> Read<'a, Stmt>
+) -> Read<'a, StmtBox>
     requires { below < 65 }
     ensures value { (turns : ℕ) → length syms.now < turns
         → ReadsStmt result (over spec.else_part (D.clauses directives.now) below turns first (expr_of condition) (stmt_of yes) syms.now) }
     ensures shorter { IfOk result (λ x. length x.1.now ≤ length syms.now) }
 {
     if !is_keyword(Keyword::Else, kind_at(syms)) {
-        return Ok((if_node(alloc, first, condition, yes)?, syms));
+        let node = StmtBox::if_only(alloc, start_of(&first), condition, yes)?;
+        return Ok((node, syms));
     }
     let (_, rest) = take(syms)?;
     let (other, rest) = statement(alloc, directives, below, rest)?;
-    Ok((if_else_node(alloc, first, condition, yes, other)?, rest))
+    let node = StmtBox::if_else(alloc, start_of(&first), condition, yes, other)?;
+    Ok((node, rest))
 }
 
 // At an `if`.
 #[cycle(reading)]
-#[tactic(auto, unfolding(vk_grammar_stmt::specs::Reading::choice))]
+#[tactic(auto, unfolding(vk_grammar_stmt::specs::Inner::Reading::choice))]
 fn choice<'a, D: Directives>(
     alloc: Global,
     directives: &D,
     below: u32,
     syms: &'a [Sym],
-) -> Read<'a, Stmt>
+) -> Read<'a, StmtBox>
     requires { below < 65 }
     ensures value { (turns : ℕ) → length syms.now < turns → ReadsStmt result (inside (over spec.choice (D.clauses directives.now) below turns) below syms.now) }
     ensures shorter { IfOk result (λ x. length x.1.now + 1 ≤ length syms.now) }
@@ -174,13 +173,13 @@ fn choice<'a, D: Directives>(
 
 // At the `while` of a loop that begins with it.
 #[cycle(reading)]
-#[tactic(auto, unfolding(vk_grammar_stmt::specs::Reading::while_loop))]
+#[tactic(auto, unfolding(vk_grammar_stmt::specs::Inner::Reading::while_loop))]
 fn while_loop<'a, D: Directives>(
     alloc: Global,
     directives: &D,
     below: u32,
     syms: &'a [Sym],
-) -> Read<'a, Stmt>
+) -> Read<'a, StmtBox>
     requires { below < 65 }
     ensures value { (turns : ℕ) → length syms.now < turns → ReadsStmt result (inside (over spec.while_loop (D.clauses directives.now) below turns) below syms.now) }
     ensures shorter { IfOk result (λ x. length x.1.now + 1 ≤ length syms.now) }
@@ -191,18 +190,19 @@ fn while_loop<'a, D: Directives>(
     let (first, rest) = take(syms)?;
     let (condition, rest) = condition(alloc, rest)?;
     let (body, rest) = statement(alloc, directives, below, rest)?;
-    Ok((while_node(alloc, first, condition, body)?, rest))
+    let node = StmtBox::while_loop(alloc, start_of(&first), condition, body)?;
+    Ok((node, rest))
 }
 
 // At a `do`.
 #[cycle(reading)]
-#[tactic(auto, unfolding(vk_grammar_stmt::specs::Reading::do_loop))]
+#[tactic(auto, unfolding(vk_grammar_stmt::specs::Inner::Reading::do_loop))]
 fn do_loop<'a, D: Directives>(
     alloc: Global,
     directives: &D,
     below: u32,
     syms: &'a [Sym],
-) -> Read<'a, Stmt>
+) -> Read<'a, StmtBox>
     requires { below < 65 }
     ensures value { (turns : ℕ) → length syms.now < turns → ReadsStmt result (inside (over spec.do_loop (D.clauses directives.now) below turns) below syms.now) }
     ensures shorter { IfOk result (λ x. length x.1.now + 1 ≤ length syms.now) }
@@ -215,12 +215,13 @@ fn do_loop<'a, D: Directives>(
     let (_, rest) = expect_word(Keyword::While, rest)?;
     let (condition, rest) = condition(alloc, rest)?;
     let (_, rest) = expect(Mark::Semicolon, rest)?;
-    Ok((do_node(alloc, first, body, condition)?, rest))
+    let node = StmtBox::do_loop(alloc, start_of(&first), body, condition)?;
+    Ok((node, rest))
 }
 
 // The first part in the head of a `for`, which is a level below it.
-#[tactic(auto, unfolding(vk_grammar_stmt::specs::Reading::first_part))]
-fn first_part(alloc: Global, below: u32, syms: &[Sym]) -> Read<'_, Stmt>
+#[tactic(auto, unfolding(vk_grammar_stmt::specs::Inner::Reading::first_part))]
+fn first_part(alloc: Global, below: u32, syms: &[Sym]) -> Read<'_, StmtBox>
     ensures value { (clauses : Clauses) (turns : ℕ) → length syms.now < turns → ReadsStmt result (over spec.first_part clauses below turns syms.now) }
     ensures shorter { IfOk result (λ x. length x.1.now + 1 ≤ length syms.now) }
 {
@@ -233,15 +234,15 @@ fn first_part(alloc: Global, below: u32, syms: &[Sym]) -> Read<'_, Stmt>
 
 // The rest of a `for` behind the first part of its head.
 #[cycle(reading)]
-#[tactic(auto, unfolding(vk_grammar_stmt::specs::Reading::for_rest))]
+#[tactic(auto, unfolding(vk_grammar_stmt::specs::Inner::Reading::for_rest))]
 fn for_rest<'a, D: Directives>(
     alloc: Global,
     directives: &D,
     below: u32,
     for_word: Sym,
-    first: Stmt,
+    first: StmtBox,
     syms: &'a [Sym],
-) -> Read<'a, Stmt>
+) -> Read<'a, StmtBox>
     requires { below < 65 }
     ensures value { (turns : ℕ) → length syms.now < turns
         → ReadsStmt result (over spec.for_rest (D.clauses directives.now) below turns for_word (stmt_of first) syms.now) }
@@ -250,19 +251,19 @@ fn for_rest<'a, D: Directives>(
     let (condition, rest) = optional(alloc, Mark::Semicolon, syms)?;
     let (third, rest) = part(alloc, Mark::CloseParen, rest)?;
     let (body, rest) = statement(alloc, directives, below, rest)?;
-    let node = for_node(alloc, for_word, first, condition, third, body)?;
+    let node = StmtBox::for_loop(alloc, start_of(&for_word), first, condition, third, body)?;
     Ok((node, rest))
 }
 
 // At a `for`.
 #[cycle(reading)]
-#[tactic(auto, unfolding(vk_grammar_stmt::specs::Reading::for_loop))]
+#[tactic(auto, unfolding(vk_grammar_stmt::specs::Inner::Reading::for_loop))]
 fn for_loop<'a, D: Directives>(
     alloc: Global,
     directives: &D,
     below: u32,
     syms: &'a [Sym],
-) -> Read<'a, Stmt>
+) -> Read<'a, StmtBox>
     requires { below < 65 }
     ensures value { (turns : ℕ) → length syms.now < turns → ReadsStmt result (inside (over spec.for_loop (D.clauses directives.now) below turns) below syms.now) }
     ensures shorter { IfOk result (λ x. length x.1.now + 1 ≤ length syms.now) }
@@ -278,14 +279,14 @@ fn for_loop<'a, D: Directives>(
 
 // At a line of `simd`.
 #[cycle(reading)]
-#[tactic(auto, unfolding(vk_grammar_stmt::specs::Reading::simd_line))]
+#[tactic(auto, unfolding(vk_grammar_stmt::specs::Inner::Reading::simd_line))]
 fn simd_line<'a, D: Directives>(
     alloc: Global,
     directives: &D,
     below: u32,
     number: u32,
     syms: &'a [Sym],
-) -> Read<'a, Stmt>
+) -> Read<'a, StmtBox>
     requires { below < 65 }
     ensures value { (turns : ℕ) → length syms.now < turns → ReadsStmt result (inside (over spec.simd_line (D.clauses directives.now) below turns number) below syms.now) }
     ensures shorter { IfOk result (λ x. length x.1.now + 1 ≤ length syms.now) }
@@ -296,34 +297,35 @@ fn simd_line<'a, D: Directives>(
     let (first, rest) = take(syms)?;
     let (body, rest) = statement(alloc, directives, below, rest)?;
     let directive = directives.directive(alloc, first, number)?;
-    Ok((simd_node(alloc, first, directive, body)?, rest))
+    let node = StmtBox::simd(alloc, start_of(&first), directive, body)?;
+    Ok((node, rest))
 }
 
 // At a line of `declare simd`.
-#[tactic(auto, unfolding(vk_grammar_stmt::specs::Reading::lost_line))]
+#[tactic(auto, unfolding(vk_grammar_stmt::specs::Inner::Reading::lost_line))]
 fn lost_line<'a, D: Directives>(
     alloc: Global,
     directives: &D,
     number: u32,
     syms: &'a [Sym],
-) -> Read<'a, Stmt>
+) -> Read<'a, StmtBox>
     ensures value { (below turns : ℕ) → ReadsStmt result (over spec.lost_line (D.clauses directives.now) below turns number syms.now) }
     ensures shorter { IfOk result (λ x. length x.1.now + 1 ≤ length syms.now) }
 {
     let (first, rest) = take(syms)?;
     let directive = directives.directive(alloc, first, number)?;
-    Ok((lost_node(first, directive), rest))
+    Ok((StmtBox::lost(alloc, start_of(&first), directive)?, rest))
 }
 
 // A statement that is no declaration.
 #[cycle(reading)]
-#[tactic(auto, unfolding(vk_grammar_stmt::specs::Reading::plain))]
+#[tactic(auto, unfolding(vk_grammar_stmt::specs::Inner::Reading::plain))]
 fn plain<'a, D: Directives>(
     alloc: Global,
     directives: &D,
     below: u32,
     syms: &'a [Sym],
-) -> Read<'a, Stmt>
+) -> Read<'a, StmtBox>
     requires { below < 65 }
     ensures value { (turns : ℕ) → length syms.now < turns → ReadsStmt result (over spec.plain (D.clauses directives.now) below turns syms.now) }
     ensures shorter { IfOk result (λ x. length x.1.now + 1 ≤ length syms.now) }
@@ -334,8 +336,8 @@ fn plain<'a, D: Directives>(
         Some(SymKind::Keyword(Keyword::While)) => while_loop(alloc, directives, below, syms),
         Some(SymKind::Keyword(Keyword::Do)) => do_loop(alloc, directives, below, syms),
         Some(SymKind::Keyword(Keyword::For)) => for_loop(alloc, directives, below, syms),
-        Some(SymKind::Keyword(Keyword::Break)) => jump(StmtKind::Break, syms),
-        Some(SymKind::Keyword(Keyword::Continue)) => jump(StmtKind::Continue, syms),
+        Some(SymKind::Keyword(Keyword::Break)) => broken(alloc, syms),
+        Some(SymKind::Keyword(Keyword::Continue)) => continued(alloc, syms),
         Some(SymKind::Keyword(Keyword::Return)) => returned(alloc, syms),
         Some(SymKind::Simd(number)) => simd_line(alloc, directives, below, number, syms),
         Some(SymKind::Simdfn(number)) => lost_line(alloc, directives, number, syms),
@@ -345,13 +347,13 @@ fn plain<'a, D: Directives>(
 
 // A statement where one is wanted, with at most `below` levels below it.
 #[cycle(reading)]
-#[tactic(auto, unfolding(vk_grammar_stmt::specs::Reading::one_statement))]
+#[tactic(auto, unfolding(vk_grammar_stmt::specs::Inner::Reading::one_statement))]
 fn one_statement<'a, D: Directives>(
     alloc: Global,
     directives: &D,
     below: u32,
     syms: &'a [Sym],
-) -> Read<'a, Stmt>
+) -> Read<'a, StmtBox>
     requires { below < 65 }
     ensures value { (turns : ℕ) → length syms.now < turns → ReadsStmt result (over spec.one_statement (D.clauses directives.now) below turns syms.now) }
     ensures shorter { IfOk result (λ x. length x.1.now + 1 ≤ length syms.now) }
@@ -365,13 +367,13 @@ fn one_statement<'a, D: Directives>(
 
 // The statements that one in a block makes, each with at most `below` levels below it.
 #[cycle(reading)]
-#[tactic(auto, unfolding(vk_grammar_stmt::specs::Reading::one_entry))]
+#[tactic(auto, unfolding(vk_grammar_stmt::specs::Inner::Reading::one_entry))]
 fn one_entry<'a, D: Directives>(
     alloc: Global,
     directives: &D,
     below: u32,
     syms: &'a [Sym],
-) -> Read<'a, Vec<Stmt>>
+) -> Read<'a, StmtList>
     requires { below < 65 }
     ensures value { (turns : ℕ) → length syms.now < turns → ReadsStmts result (over spec.one_entry (D.clauses directives.now) below turns syms.now) }
     ensures shorter { IfOk result (λ x. length x.1.now + 1 ≤ length syms.now) }
@@ -380,7 +382,7 @@ fn one_entry<'a, D: Directives>(
         return locals(alloc, true, syms);
     }
     let (only, rest) = plain(alloc, directives, below, syms)?;
-    let mut list = Vec::new(alloc);
+    let mut list = StmtList::new(alloc);
     list.push(only)?;
     Ok((list, rest))
 }

@@ -8,10 +8,10 @@ ghost use Rattle.vk_parse_expr.specs.Inner.Answers.{Gives};
 ghost use Rattle.vk_parse_stmt.specs.Inner.Answers.{is_const};
 
 use vk_ast::{BinOp, NameId};
+use vk_grammar_expr::{Keyword, Sym, SymKind};
 use vk_parse_expr::signs::{is_start, is_type_part, kind_at};
 use vk_parse_expr::steps::take;
 use vk_parse_expr::{Read, ReadFail};
-use vk_grammar_expr::{Keyword, Sym, SymKind};
 use vk_tokens::Mark;
 
 /// Whether this keyword stands here.

@@ -8,14 +8,15 @@ ghost use Rattle.vk_grammar_unit.specs.Inner.Reading as spec;
 use crate::words::{is_line, line_at};
 use std::alloc::Global;
 use vk_ast::Directive;
+use vk_grammar_expr::Sym;
+use vk_nodes::DirectiveList;
 use vk_parse_expr::signs::kind_at;
 use vk_parse_expr::steps::take;
 use vk_parse_expr::{Read, ReadFail};
-use vk_grammar_expr::Sym;
 use vk_parse_stmt::Directives;
 
 // The directive of a line.
-#[tactic(auto, unfolding(vk_grammar_unit::specs::Reading::line))]
+#[tactic(auto, unfolding(vk_grammar_unit::specs::Inner::Reading::line))]
 fn line<'a, D: Directives>(alloc: Global, directives: &D, syms: &'a [Sym]) -> Read<'a, Directive>
     ensures value { Gives (λ x. (directive_of x.0, x.1.now)) result (spec.line (D.clauses directives.now) syms.now) }
     ensures shorter { IfOk result (λ x. length x.1.now + 1 ≤ length syms.now) }
@@ -29,17 +30,17 @@ fn line<'a, D: Directives>(alloc: Global, directives: &D, syms: &'a [Sym]) -> Re
 }
 
 /// The directives of all lines that stand here.
-#[tactic(auto, unfolding(vk_grammar_unit::specs::Reading::lines))]
+#[tactic(auto, unfolding(vk_grammar_unit::specs::Inner::Reading::lines))]
 pub(crate) fn lines<'a, D: Directives>(
     alloc: Global,
     directives: &D,
     syms: &'a [Sym],
-) -> Read<'a, Vec<Directive>>
+) -> Read<'a, DirectiveList>
     ensures value { (turns : ℕ) → length syms.now < turns
-        → Gives (λ x. (map directive_of x.0.items, x.1.now)) result (spec.lines (D.clauses directives.now) turns syms.now) }
+        → Gives (λ x. (map directive_of x.0, x.1.now)) result (spec.lines (D.clauses directives.now) turns syms.now) }
     ensures shorter { IfOk result (λ x. length x.1.now ≤ length syms.now) }
 {
-    let mut list = Vec::new(alloc);
+    let mut list = DirectiveList::new(alloc);
     let mut rest = syms;
     'lines: while is_line(kind_at(rest)) {
         let (directive, after) = match line(alloc, directives, rest) {

@@ -7,15 +7,15 @@ ghost use Rattle.vk_ast.specs.Directives.{directive_of};
 ghost use Rattle.vk_ast.specs.Statements.{stmt_of};
 ghost use Rattle.vk_ast.specs.Tree.{expr_of};
 ghost use Rattle.vk_ast.specs.Units.{item_of};
-ghost use Rattle.vk_ast.specs.declared.items.Item.TheVariants.{Lost};
 ghost use Rattle.vk_parse_expr.specs.declared.fail.ReadFail.TheVariants.{Memory as MemoryFail};
 ghost use Rattle.vk_grammar_unit.specs.Items as items;
 ghost use Rattle.vk_parse_unit.specs.Inner.Answers.{named_of, type_of, initial_of};
 
 use std::alloc::Global;
-use vk_ast::{Directive, Expr, Function, Item, NameId, Object, ParamDecl, Stmt};
-use vk_parse_expr::{ReadFail, Start};
+use vk_ast::{Expr, Function, Item, NameId, Object, ParamDecl};
 use vk_kinds::CType;
+use vk_nodes::{DirectiveList, ExprBox, ExprList, ItemList, Start, StmtBox};
+use vk_parse_expr::ReadFail;
 use vk_types::Ty;
 
 /// A name, with the line and the number of its token.
@@ -39,7 +39,7 @@ pub(crate) struct ObjectType {
 /// An initialiser, with the line and the number of its first token; nothing and zeros where there is none.
 #[derive(Drop)]
 pub(crate) struct Initial {
-    pub items: Option<Vec<Expr>>,
+    pub items: Option<ExprList>,
     /// Whether it stands in braces.
     pub braced: bool,
     pub line: u32,
@@ -114,11 +114,18 @@ pub(crate) fn no_initial() -> Initial
     }
 }
 
+// The length of an array, where one is given.
+fn length_of(length: Option<ExprBox>) -> Option<Expr>
+    ensures { option_map expr_of result ≡ option_map expr_of length }
+{
+    length.map(|e| e.into_expr())
+}
+
 /// An object.
 pub(crate) fn object_node(
     of: ObjectType,
     name: Named,
-    array: Option<Option<Expr>>,
+    array: Option<Option<ExprBox>>,
     init: Initial,
 ) -> Item
     ensures { item_of result ≡ items.object_tree (type_of of) (named_of name) (option_map (option_map expr_of) array) (initial_of init) }
@@ -130,8 +137,8 @@ pub(crate) fn object_node(
         ty: of.ty,
         fixed: of.fixed,
         outside: of.outside,
-        array,
-        init: init.items,
+        array: array.map(length_of),
+        init: init.items.map(|list| list.into_vec()),
         braced: init.braced,
         init_line: init.line,
         init_token: init.token,
@@ -141,36 +148,29 @@ pub(crate) fn object_node(
 /// A declaration of a function, or its definition where there is a body.
 pub(crate) fn function_node(
     name: Named,
-    directives: Vec<Directive>,
+    directives: DirectiveList,
     result_type: CType,
     params: Vec<ParamDecl>,
-    body: Option<Stmt>,
+    body: Option<StmtBox>,
 ) -> Item
-    ensures { item_of result ≡ items.function_tree (named_of name) (map directive_of directives.items) result_type params.items (option_map stmt_of body) }
+    ensures { item_of result ≡ items.function_tree (named_of name) (map directive_of directives) result_type params.items (option_map stmt_of body) }
 {
     Item::Function(Function {
         line: name.line,
         token: name.token,
         name: name.id,
-        directives,
+        directives: directives.into_vec(),
         result: result_type,
         params,
-        body,
+        body: body.map(|block| block.into_stmt()),
     })
 }
 
 /// A list of one item.
-pub(crate) fn single(alloc: Global, item: Item) -> Result<Vec<Item>, ReadFail>
-    ensures { MatchResult result (λ list. list.items ≡ item ∷ []) (λ fail. fail ≡ MemoryFail) }
+pub(crate) fn single(alloc: Global, item: Item) -> Result<ItemList, ReadFail>
+    ensures { MatchResult result (λ list. list ≡ item ∷ []) (λ fail. fail ≡ MemoryFail) }
 {
-    let mut list = Vec::new(alloc);
+    let mut list = ItemList::new(alloc);
     list.push(item)?;
     Ok(list)
-}
-
-/// Lines of directives that are items by themselves.
-pub(crate) fn lost_lines(alloc: Global, lines: Vec<Directive>) -> Result<Vec<Item>, ReadFail>
-    ensures { MatchResult result (λ list. list.items ≡ map Lost lines.items) (λ fail. fail ≡ MemoryFail) }
-{
-    Ok(lines.into_iter().map(Item::Lost).collect(alloc)?)
 }

@@ -10,17 +10,18 @@ ghost use Rattle.vk_parse_unit.specs.Inner.Answers.{named_of, type_of, initial_o
 use crate::nodes::{Initial, Named, ObjectType, no_initial, object_node};
 use crate::words::name;
 use std::alloc::Global;
-use vk_ast::{Expr, Item};
+use vk_ast::Item;
+use vk_grammar_expr::Sym;
+use vk_nodes::{ExprBox, ExprList, ItemList};
 use vk_parse_expr::signs::{is_sign, kind_at, start_at};
 use vk_parse_expr::steps::{expect, take};
 use vk_parse_expr::{Read, read_full};
-use vk_grammar_expr::Sym;
 use vk_parse_stmt::acts::optional;
 use vk_tokens::Mark;
 
 // `[ "[" [cond] "]" ]`
-#[tactic(auto, unfolding(vk_grammar_unit::specs::Reading::array_length))]
-fn array_length(alloc: Global, syms: &[Sym]) -> Read<'_, Option<Option<Expr>>>
+#[tactic(auto, unfolding(vk_grammar_unit::specs::Inner::Reading::array_length))]
+fn array_length(alloc: Global, syms: &[Sym]) -> Read<'_, Option<Option<ExprBox>>>
     ensures value { (turns : ℕ) → length syms.now < turns
         → Gives (λ x. (option_map (option_map expr_of) x.0, x.1.now)) result (spec.array_length 63 turns syms.now) }
     ensures shorter { IfOk result (λ x. length x.1.now ≤ length syms.now) }
@@ -44,12 +45,12 @@ fn behind_comma(syms: &[Sym]) -> Option<&[Sym]>
 }
 
 // The values before a `}`, behind which a comma may stand.
-#[tactic(auto, unfolding(vk_grammar_unit::specs::Reading::values))]
-fn values(alloc: Global, syms: &[Sym]) -> Read<'_, Vec<Expr>>
-    ensures value { (turns : ℕ) → length syms.now < turns → Gives (λ x. (map expr_of x.0.items, x.1.now)) result (spec.values 63 turns syms.now) }
+#[tactic(auto, unfolding(vk_grammar_unit::specs::Inner::Reading::values))]
+fn values(alloc: Global, syms: &[Sym]) -> Read<'_, ExprList>
+    ensures value { (turns : ℕ) → length syms.now < turns → Gives (λ x. (map expr_of x.0, x.1.now)) result (spec.values 63 turns syms.now) }
     ensures shorter { IfOk result (λ x. length x.1.now ≤ length syms.now) }
 {
-    let mut list = Vec::new(alloc);
+    let mut list = ExprList::new(alloc);
     let mut rest = syms;
     'values: while !is_sign(Mark::CloseBrace, kind_at(rest)) {
         let (value, after) = match read_full(alloc, rest) {
@@ -66,7 +67,7 @@ fn values(alloc: Global, syms: &[Sym]) -> Read<'_, Vec<Expr>>
 }
 
 // An initialiser in braces, at the `{`.
-#[tactic(auto, unfolding(vk_grammar_unit::specs::Reading::braced_initial))]
+#[tactic(auto, unfolding(vk_grammar_unit::specs::Inner::Reading::braced_initial))]
 fn braced_initial(alloc: Global, syms: &[Sym]) -> Read<'_, Initial>
     ensures value { (turns : ℕ) → length syms.now < turns → Gives (λ x. (initial_of x.0, x.1.now)) result (spec.braced_initial 63 turns syms.now) }
     ensures shorter { IfOk result (λ x. length x.1.now ≤ length syms.now) }
@@ -84,14 +85,14 @@ fn braced_initial(alloc: Global, syms: &[Sym]) -> Read<'_, Initial>
 }
 
 // An initialiser that is one expression.
-#[tactic(auto, unfolding(vk_grammar_unit::specs::Reading::scalar_initial, vk_grammar_stmt::specs::Reading::cond))]
+#[tactic(auto, unfolding(vk_grammar_unit::specs::Inner::Reading::scalar_initial, vk_grammar_stmt::specs::Inner::Reading::cond))]
 fn scalar_initial(alloc: Global, syms: &[Sym]) -> Read<'_, Initial>
     ensures value { (turns : ℕ) → length syms.now < turns → Gives (λ x. (initial_of x.0, x.1.now)) result (spec.scalar_initial 63 turns syms.now) }
     ensures shorter { IfOk result (λ x. length x.1.now ≤ length syms.now) }
 {
     let first = start_at(syms);
     let (value, rest) = read_full(alloc, syms)?;
-    let mut items = Vec::new(alloc);
+    let mut items = ExprList::new(alloc);
     items.push(value.expr)?;
     let initial = Initial {
         items: Some(items),
@@ -103,7 +104,7 @@ fn scalar_initial(alloc: Global, syms: &[Sym]) -> Read<'_, Initial>
 }
 
 // Behind the name of an object: its initialiser, if there is one.
-#[tactic(auto, unfolding(vk_grammar_unit::specs::Reading::initial))]
+#[tactic(auto, unfolding(vk_grammar_unit::specs::Inner::Reading::initial))]
 fn initial(alloc: Global, syms: &[Sym]) -> Read<'_, Initial>
     ensures value { (turns : ℕ) → length syms.now < turns → Gives (λ x. (initial_of x.0, x.1.now)) result (spec.initial 63 turns syms.now) }
     ensures shorter { IfOk result (λ x. length x.1.now ≤ length syms.now) }
@@ -120,7 +121,7 @@ fn initial(alloc: Global, syms: &[Sym]) -> Read<'_, Initial>
 }
 
 // Behind the name of an object.
-#[tactic(auto, unfolding(vk_grammar_unit::specs::Reading::object))]
+#[tactic(auto, unfolding(vk_grammar_unit::specs::Inner::Reading::object))]
 fn object(alloc: Global, of: ObjectType, name: Named, syms: &[Sym]) -> Read<'_, Item>
     ensures value { (turns : ℕ) → length syms.now < turns → ReadsItem result (spec.object 63 turns (type_of of) (named_of name) syms.now) }
     ensures shorter { IfOk result (λ x. length x.1.now ≤ length syms.now) }
@@ -131,7 +132,7 @@ fn object(alloc: Global, of: ObjectType, name: Named, syms: &[Sym]) -> Read<'_, 
 }
 
 // An object behind a comma.
-#[tactic(auto, unfolding(vk_grammar_unit::specs::Reading::later_object))]
+#[tactic(auto, unfolding(vk_grammar_unit::specs::Inner::Reading::later_object))]
 fn later_object(alloc: Global, of: ObjectType, syms: &[Sym]) -> Read<'_, Item>
     ensures value { (turns : ℕ) → length syms.now < turns → ReadsItem result (spec.later_object 63 turns (type_of of) syms.now) }
     ensures shorter { IfOk result (λ x. length x.1.now + 1 ≤ length syms.now) }
@@ -142,12 +143,12 @@ fn later_object(alloc: Global, of: ObjectType, syms: &[Sym]) -> Read<'_, Item>
 }
 
 // The objects of a declaration before the `;`, behind the name of the first.
-fn object_list(alloc: Global, of: ObjectType, name: Named, syms: &[Sym]) -> Read<'_, Vec<Item>>
+fn object_list(alloc: Global, of: ObjectType, name: Named, syms: &[Sym]) -> Read<'_, ItemList>
     ensures value { (turns : ℕ) → length syms.now < turns → ReadsItems result (object_list (type_of of) (named_of name) turns syms.now) }
     ensures shorter { IfOk result (λ x. length x.1.now ≤ length syms.now) }
 {
     let (first, mut rest) = object(alloc, of, name, syms)?;
-    let mut list = Vec::new(alloc);
+    let mut list = ItemList::new(alloc);
     list.push(first)?;
     'objects: while is_sign(Mark::Comma, kind_at(rest)) {
         let (object, after) = match later_object(alloc, of, rest) {
@@ -161,13 +162,13 @@ fn object_list(alloc: Global, of: ObjectType, name: Named, syms: &[Sym]) -> Read
 }
 
 /// The objects of a declaration, each an item of its own, behind the name of the first.
-#[tactic(auto, unfolding(vk_grammar_unit::specs::Reading::objects))]
+#[tactic(auto, unfolding(vk_grammar_unit::specs::Inner::Reading::objects))]
 pub(crate) fn objects(
     alloc: Global,
     of: ObjectType,
     name: Named,
     syms: &[Sym],
-) -> Read<'_, Vec<Item>>
+) -> Read<'_, ItemList>
     ensures value { (turns : ℕ) → length syms.now < turns → ReadsItems result (spec.objects 63 turns (type_of of) (named_of name) syms.now) }
     ensures shorter { IfOk result (λ x. length x.1.now + 1 ≤ length syms.now) }
 {

@@ -9,19 +9,20 @@ use crate::nodes::{Named, pointer_to, with_name, without_name};
 use crate::words::{named, qualifiers};
 use std::alloc::Global;
 use vk_ast::ParamDecl;
+use vk_grammar_expr::{Keyword, Sym};
+use vk_kinds::CType;
+use vk_nodes::Start;
+use vk_parse_expr::Read;
 use vk_parse_expr::signs::{is_sign, kind_at, start_at};
 use vk_parse_expr::steps::take;
 use vk_parse_expr::words::{type_in, type_words};
-use vk_parse_expr::{Read, Start};
-use vk_grammar_expr::{Keyword, Sym};
-use vk_kinds::CType;
 use vk_parse_stmt::acts::optional;
 use vk_parse_stmt::signs::{has_const, is_keyword, name_at};
 use vk_tokens::Mark;
 use vk_types::Ty;
 
 // Behind the name of a parameter that is no pointer: an array is a pointer, and its length is not used.
-#[tactic(auto, unfolding(vk_grammar_unit::specs::Reading::array_param))]
+#[tactic(auto, unfolding(vk_grammar_unit::specs::Inner::Reading::array_param))]
 fn array_param(alloc: Global, ty: Ty, fixed: bool, name: Named, syms: &[Sym]) -> Read<'_, ParamDecl>
     ensures value { (turns : ℕ) → length syms.now < turns → ReadsParam result (spec.array_param 63 turns ty fixed (named_of name) syms.now) }
     ensures shorter { IfOk result (λ x. length x.1.now ≤ length syms.now) }
@@ -34,7 +35,7 @@ fn array_param(alloc: Global, ty: Ty, fixed: bool, name: Named, syms: &[Sym]) ->
     Ok((with_name(name, pointer_to(ty, fixed), false), rest))
 }
 
-#[tactic(auto, unfolding(vk_grammar_unit::specs::Reading::value_param))]
+#[tactic(auto, unfolding(vk_grammar_unit::specs::Inner::Reading::value_param))]
 fn value_param(
     alloc: Global,
     first: Start,
@@ -53,7 +54,7 @@ fn value_param(
 }
 
 // Behind the qualifiers of a pointer.
-#[tactic(auto, unfolding(vk_grammar_unit::specs::Reading::pointer_name))]
+#[tactic(auto, unfolding(vk_grammar_unit::specs::Inner::Reading::pointer_name))]
 fn pointer_name(first: Start, ctype: CType, fixed: bool, syms: &[Sym]) -> Read<'_, ParamDecl>
     ensures value { (turns : ℕ) → ReadsParam result (spec.pointer_name 63 turns first.line first.token ctype fixed syms.now) }
     ensures shorter { IfOk result (λ x. length x.1.now ≤ length syms.now) }
@@ -66,7 +67,7 @@ fn pointer_name(first: Start, ctype: CType, fixed: bool, syms: &[Sym]) -> Read<'
 }
 
 // At the `*` of a pointer.
-#[tactic(auto, unfolding(vk_grammar_unit::specs::Reading::pointer_param))]
+#[tactic(auto, unfolding(vk_grammar_unit::specs::Inner::Reading::pointer_param))]
 fn pointer_param(first: Start, ty: Ty, fixed: bool, syms: &[Sym]) -> Read<'_, ParamDecl>
     ensures value { (turns : ℕ) → length syms.now < turns → ReadsParam result (spec.pointer_param 63 turns first.line first.token ty fixed syms.now) }
     ensures shorter { IfOk result (λ x. length x.1.now ≤ length syms.now) }
@@ -76,7 +77,7 @@ fn pointer_param(first: Start, ty: Ty, fixed: bool, syms: &[Sym]) -> Read<'_, Pa
     pointer_name(first, pointer_to(ty, fixed), has_const(list), rest)
 }
 
-#[tactic(auto, unfolding(vk_grammar_unit::specs::Reading::param_rest))]
+#[tactic(auto, unfolding(vk_grammar_unit::specs::Inner::Reading::param_rest))]
 fn param_rest(alloc: Global, first: Start, ty: Ty, fixed: bool, syms: &[Sym]) -> Read<'_, ParamDecl>
     ensures value { (turns : ℕ) → length syms.now < turns → ReadsParam result (spec.param_rest 63 turns first.line first.token ty fixed syms.now) }
     ensures shorter { IfOk result (λ x. length x.1.now ≤ length syms.now) }
@@ -89,7 +90,7 @@ fn param_rest(alloc: Global, first: Start, ty: Ty, fixed: bool, syms: &[Sym]) ->
 }
 
 // A parameter.
-#[tactic(auto, unfolding(vk_grammar_unit::specs::Reading::param))]
+#[tactic(auto, unfolding(vk_grammar_unit::specs::Inner::Reading::param))]
 fn param(alloc: Global, syms: &[Sym]) -> Read<'_, ParamDecl>
     ensures value { (turns : ℕ) → length syms.now < turns → ReadsParam result (spec.param 63 turns syms.now) }
     ensures shorter { IfOk result (λ x. length x.1.now ≤ length syms.now) }
@@ -100,7 +101,7 @@ fn param(alloc: Global, syms: &[Sym]) -> Read<'_, ParamDecl>
 }
 
 // A parameter behind a comma.
-#[tactic(auto, unfolding(vk_grammar_unit::specs::Reading::later_param))]
+#[tactic(auto, unfolding(vk_grammar_unit::specs::Inner::Reading::later_param))]
 fn later_param(alloc: Global, syms: &[Sym]) -> Read<'_, ParamDecl>
     ensures value { (turns : ℕ) → length syms.now < turns → ReadsParam result (spec.later_param 63 turns syms.now) }
     ensures shorter { IfOk result (λ x. length x.1.now + 1 ≤ length syms.now) }
@@ -109,7 +110,7 @@ fn later_param(alloc: Global, syms: &[Sym]) -> Read<'_, ParamDecl>
     param(alloc, rest)
 }
 
-#[tactic(auto, unfolding(vk_grammar_unit::specs::Reading::some_params))]
+#[tactic(auto, unfolding(vk_grammar_unit::specs::Inner::Reading::some_params))]
 fn some_params(alloc: Global, syms: &[Sym]) -> Read<'_, Vec<ParamDecl>>
     ensures value { (turns : ℕ) → length syms.now < turns → Gives (λ x. (x.0.items, x.1.now)) result (spec.some_params 63 turns syms.now) }
     ensures shorter { IfOk result (λ x. length x.1.now ≤ length syms.now) }
@@ -129,7 +130,7 @@ fn some_params(alloc: Global, syms: &[Sym]) -> Read<'_, Vec<ParamDecl>>
 }
 
 /// The parameters before a `)`.
-#[tactic(auto, unfolding(vk_grammar_unit::specs::Reading::params))]
+#[tactic(auto, unfolding(vk_grammar_unit::specs::Inner::Reading::params))]
 pub(crate) fn params(alloc: Global, syms: &[Sym]) -> Read<'_, Vec<ParamDecl>>
     ensures value { (turns : ℕ) → length syms.now < turns → Gives (λ x. (x.0.items, x.1.now)) result (spec.params 63 turns syms.now) }
     ensures shorter { IfOk result (λ x. length x.1.now ≤ length syms.now) }

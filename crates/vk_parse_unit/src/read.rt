@@ -11,26 +11,38 @@ ghost use Rattle.vk_parse_expr.specs.Inner.Answers.{Gives};
 use crate::functions::next_item;
 use std::alloc::Global;
 use vk_ast::Item;
-use vk_parse_expr::ReadFail;
 use vk_grammar_expr::Sym;
+use vk_nodes::ItemList;
+use vk_parse_expr::ReadFail;
 use vk_parse_stmt::Directives;
-use vk_parse_stmt::lists::append;
 
-fn whole<D: Directives>(alloc: Global, directives: &D, syms: &[Sym]) -> Result<Vec<Item>, ReadFail>
+fn whole<D: Directives>(alloc: Global, directives: &D, syms: &[Sym]) -> Result<ItemList, ReadFail>
     ensures { (turns : ℕ) → length syms.now < turns
-        → Gives (λ list. (map item_of list.items, [])) result (whole_unit (D.clauses directives.now) 63 65 turns syms.now) }
+        → Gives (λ list. (map item_of list, [])) result (whole_unit (D.clauses directives.now) 63 65 turns syms.now) }
 {
-    let mut list = Vec::new(alloc);
+    let mut list = ItemList::new(alloc);
     let mut rest = syms;
     'items: while !rest.is_empty() {
         let (more, after) = match next_item(alloc, directives, rest) {
             Ok(read) => read,
             Err(fail) => return Err(fail),
         };
-        append(&mut list, more)?;
+        list.append(more)?;
         rest = after;
     }
     Ok(list)
+}
+
+fn whole_items<D: Directives>(
+    alloc: Global,
+    directives: &D,
+    syms: &[Sym],
+) -> Result<Vec<Item>, ReadFail>
+    ensures { (turns : ℕ) → length syms.now < turns
+        → Gives (λ list. (map item_of list.items, [])) result (whole_unit (D.clauses directives.now) 63 65 turns syms.now) }
+{
+    let list = whole(alloc, directives, syms)?;
+    Ok(list.into_vec())
 }
 
 /// Reads the tokens as one unit (C17 6.9), all of them: its functions, objects and lines of `declare simd`, in their order,
@@ -56,5 +68,5 @@ pub fn read_unit<D: Directives>(
     ensures deep { (n : ℕ) → result ≡ Err (ReadFail.Deep n)
         → IsDeepPlace (IsText (D.clauses directives.now)) (IsTextWithin (D.clauses directives.now) 64 65) syms.now n }
 {
-    whole(alloc, directives, syms)
+    whole_items(alloc, directives, syms)
 }

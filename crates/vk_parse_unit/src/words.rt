@@ -9,10 +9,10 @@ ghost use Rattle.vk_parse_unit.specs.Inner.Answers.{named_of, qualifier_count};
 
 use crate::nodes::Named;
 use vk_ast::NameId;
+use vk_grammar_expr::{Keyword, Sym, SymKind};
 use vk_parse_expr::signs::kind_at;
 use vk_parse_expr::steps::take;
 use vk_parse_expr::{Read, ReadFail};
-use vk_grammar_expr::{Keyword, Sym, SymKind};
 use vk_parse_stmt::signs::{is_keyword, name_at};
 
 /// Whether `const` or `restrict` stands here.
@@ -57,7 +57,7 @@ pub(crate) fn named(sym: Sym, id: NameId) -> Named
 }
 
 /// An identifier.
-#[tactic(auto, unfolding(vk_grammar_unit::specs::Reading::name))]
+#[tactic(auto, unfolding(vk_grammar_unit::specs::Inner::Reading::name))]
 pub(crate) fn name(syms: &[Sym]) -> Read<'_, Named>
     ensures value { Gives (λ x. (named_of x.0, x.1.now)) result (spec.name syms.now) }
     ensures shorter { IfOk result (λ x. length x.1.now + 1 ≤ length syms.now) }
@@ -70,7 +70,7 @@ pub(crate) fn name(syms: &[Sym]) -> Read<'_, Named>
 }
 
 /// `[extern]`, and whether it stands here.
-#[tactic(auto, unfolding(vk_grammar_unit::specs::Reading::extern_word))]
+#[tactic(auto, unfolding(vk_grammar_unit::specs::Inner::Reading::extern_word))]
 pub(crate) fn extern_word(syms: &[Sym]) -> Read<'_, bool>
     ensures value { Gives (λ x. (x.0, x.1.now)) result (spec.extern_word syms.now) }
     ensures shorter { IfOk result (λ x. length x.1.now ≤ length syms.now) }

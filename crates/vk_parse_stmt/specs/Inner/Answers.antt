@@ -1,6 +1,5 @@
 -- What the code answers, against the readers of statements on lists of tokens.
 use Rattle.std.specs.Borrow.{Bor}
-use Rattle.std.specs.Global.{Vec}
 use Rattle.std.specs.Prelude.{◌≡◌, ℕ, nat_lt, Bool, List, map, Some, Result, Ok, Err}
 use Rattle.vk_ast.specs.declared.statements.Stmt.{Stmt}
 use Rattle.vk_ast.specs.Statements.{StmtTree, stmt_of}
@@ -30,8 +29,8 @@ abbrev pub ReadsStmt : Result (Stmt × Bor (List Sym)) ReadFail → Result (Stmt
 ReadsStmt = Gives (λ x. (stmt_of x.0, x.1.now))
 
 -- statements and the tokens that are left
-abbrev pub ReadsStmts : Result (Vec Stmt × Bor (List Sym)) ReadFail → Result (List StmtTree × List Sym) Fault → Type 0
-ReadsStmts = Gives (λ x. (map stmt_of x.0.items, x.1.now))
+abbrev pub ReadsStmts : Result (List Stmt × Bor (List Sym)) ReadFail → Result (List StmtTree × List Sym) Fault → Type 0
+ReadsStmts = Gives (λ x. (map stmt_of x.0, x.1.now))
 
 -- a reader of what has statements of at most `d` levels in it, and expressions of at most 64 levels
 abbrev pub over : {A : Type 0} → (Clauses → (e d turns : ℕ) → Parser StmtTree → Parser (List StmtTree) → A) → Clauses → (d turns : ℕ) → A

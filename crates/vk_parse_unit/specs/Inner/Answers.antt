@@ -1,6 +1,5 @@
 -- What the code answers, against the readers of units on lists of tokens.
 use Rattle.std.specs.Borrow.{Bor}
-use Rattle.std.specs.Global.{Vec}
 use Rattle.std.specs.Prelude.{ℕ, cond, List, [], ◌∷◌, map, Option, Some, None, Result}
 use Rattle.std.specs.List.{prefix_len}
 use Rattle.std.specs.Option.{option_map}
@@ -30,7 +29,7 @@ abbrev pub type_of : ObjectType → items.ObjectType
 type_of t = record { ty = t.ty; fixed = t.fixed; outside = t.outside }
 
 abbrev pub initial_of : Initial → items.Initial
-initial_of i = record { items = option_map (λ es. map expr_of es.items) i.items; braced = i.braced; line = i.line; token = i.token }
+initial_of i = record { items = option_map (map expr_of) i.items; braced = i.braced; line = i.line; token = i.token }
 
 -- a parameter and the tokens that are left
 abbrev pub ReadsParam : Result (ParamDecl × Bor (List Sym)) ReadFail → Result (ParamDecl × List Sym) Fault → Type 0
@@ -40,8 +39,8 @@ ReadsParam = Gives (λ x. (x.0, x.1.now))
 abbrev pub ReadsItem : Result (Item × Bor (List Sym)) ReadFail → Result (ItemTree × List Sym) Fault → Type 0
 ReadsItem = Gives (λ x. (item_of x.0, x.1.now))
 
-abbrev pub ReadsItems : Result (Vec Item × Bor (List Sym)) ReadFail → Result (List ItemTree × List Sym) Fault → Type 0
-ReadsItems = Gives (λ x. (map item_of x.0.items, x.1.now))
+abbrev pub ReadsItems : Result (List Item × Bor (List Sym)) ReadFail → Result (List ItemTree × List Sym) Fault → Type 0
+ReadsItems = Gives (λ x. (map item_of x.0, x.1.now))
 
 -- how many of the first tokens are qualifiers
 abbrev pub qualifier_count : List Sym → ℕ

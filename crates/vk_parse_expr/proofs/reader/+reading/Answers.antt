@@ -8,7 +8,7 @@ use Rattle.vk_parse_expr.proofs.reader.+reading.Goals as goal
 
 pub some_arguments-arguments-init : goal.some_arguments-arguments-init
 some_arguments-arguments-init t c = record {
-  so_far = λ turns l. rw (c.in_ok-push.ensures.items, c.new-list.ensures.items)
+  so_far = λ turns l. rw (c.in_ok-push.ensures, c.new-list.ensures)
       (first_turn c.args.below turns c.in_ok-first.first.expr c.in_ok-first.first.height c.args.syms.now c.in_ok-first.rest.now l c.in_ok-first.ensures.shorter (c.in_ok-first.ensures.value turns l));
   shorter = search rules;
   high = search rules;
@@ -18,14 +18,14 @@ pub some_arguments-returns-in-Err-clause-value : goal.some_arguments-returns-in-
 some_arguments-returns-in-Err-clause-value t c =
     λ turns l.
     let comma : is_sign mark.Comma (head c.arguments.rest.now) ≡ true = search rules in
-    last_turn c.args.below turns c.arguments.list.items c.arguments.height c.in-Err.fail c.arguments.rest.now _ comma (c.in-Err.ensures.value turns (omega (arith, c.arguments.invariant.shorter))) (c.arguments.invariant.so_far turns l)
+    last_turn c.args.below turns c.arguments.list c.arguments.height c.in-Err.fail c.arguments.rest.now _ comma (c.in-Err.ensures.value turns (omega (arith, c.arguments.invariant.shorter))) (c.arguments.invariant.so_far turns l)
 
 pub some_arguments-arguments-preserved : goal.some_arguments-arguments-preserved
 some_arguments-arguments-preserved t c = record {
   so_far = λ turns l.
       let comma : is_sign mark.Comma (head c.arguments.rest.now) ≡ true = search rules in
-      rw (c.in_ok-push-2.ensures.items, c.max-height.ensures)
-      (one_turn c.args.below turns c.arguments.list.items c.arguments.height c.in-Ok.read.0.expr c.in-Ok.read.0.height c.arguments.rest.now c.in-Ok.read.1.now _ comma
+      rw (c.in_ok-push-2.ensures, c.max-height.ensures)
+      (one_turn c.args.below turns c.arguments.list c.arguments.height c.in-Ok.read.0.expr c.in-Ok.read.0.height c.arguments.rest.now c.in-Ok.read.1.now _ comma
       (c.in-Ok.ensures.value turns (omega (arith, c.arguments.invariant.shorter))) c.in-Ok.ensures.shorter (c.arguments.invariant.so_far turns l));
   shorter = search rules;
   high = search rules;
@@ -35,7 +35,7 @@ pub some_arguments-returns-clause-value : goal.some_arguments-returns-clause-val
 some_arguments-returns-clause-value t c =
     λ turns l.
     let comma : is_sign mark.Comma (head c.arguments.rest.now) ≡ false = search rules in
-    no_turn c.args.below turns c.arguments.list.items c.arguments.height c.arguments.rest.now _ comma (c.arguments.invariant.so_far turns l)
+    no_turn c.args.below turns c.arguments.list c.arguments.height c.arguments.rest.now _ comma (c.arguments.invariant.so_far turns l)
 
 pub operators-returns-clause-value : goal.operators-returns-clause-value
 operators-returns-clause-value t c =

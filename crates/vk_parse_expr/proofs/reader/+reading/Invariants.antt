@@ -70,7 +70,7 @@ decreases-conditional l = 1000 * l.below + 300
 
 abbrev pub invariant-some_arguments-arguments : goal.invariant-some_arguments-arguments
 invariant-some_arguments-arguments l = record {
-  so_far : (turns : ℕ) → length l.fn.syms < turns → Going l.below turns l.list.items l.height l.rest (summed (some_arguments l.below turns (expression turns l.below)) l.fn.syms);
+  so_far : (turns : ℕ) → length l.fn.syms < turns → Going l.below turns l.list l.height l.rest (summed (some_arguments l.below turns (expression turns l.below)) l.fn.syms);
   shorter : length l.rest + 1 ≤ length l.fn.syms;
   high : l.height ≤ l.below;
 }

@@ -10,7 +10,7 @@ use Rattle.vk_parse_stmt.proofs.locals.local_list.Goals as goal
 pub variables-init : goal.variables-init
 unfolding local_list
 variables-init c = record {
-  so_far = λ turns l. rw (c.in_ok-push.ensures.items, c.new-list.ensures.items, c.in_ok-first.ensures.value turns l)
+  so_far = λ turns l. rw (c.in_ok-push.ensures, c.new-list.ensures, c.in_ok-first.ensures.value turns l)
       (behind_first (is_sign mark.Comma) (later_local 63 turns c.args.room c.args.ty c.args.fixed) turns (stmt_of c.in_ok-first.first) c.in_ok-first.rest.now
       (omega (arith, l, c.in_ok-first.ensures.shorter)));
   shorter = search rules;
@@ -26,8 +26,8 @@ pub variables-preserved : goal.variables-preserved
 variables-preserved c = record {
   so_far = λ turns l.
       let comma : is_sign mark.Comma (head c.variables.rest.now) ≡ true = search rules in
-      rw (c.in_ok-push-2.ensures.items, map-append stmt_of c.variables.list.items (c.in-Ok.read.0 ∷ []))
-      (turned (is_sign mark.Comma) (later_local 63 turns c.args.room c.args.ty c.args.fixed) (map stmt_of c.variables.list.items) (stmt_of c.in-Ok.read.0) c.variables.rest.now c.in-Ok.read.1.now _ comma
+      rw (c.in_ok-push-2.ensures, map-append stmt_of c.variables.list (c.in-Ok.read.0 ∷ []))
+      (turned (is_sign mark.Comma) (later_local 63 turns c.args.room c.args.ty c.args.fixed) (map stmt_of c.variables.list) (stmt_of c.in-Ok.read.0) c.variables.rest.now c.in-Ok.read.1.now _ comma
       (c.in-Ok.ensures.value turns (omega (arith, l, c.variables.invariant.shorter))) c.in-Ok.ensures.shorter (c.variables.invariant.so_far turns l));
   shorter = search rules;
 }
@@ -35,4 +35,4 @@ variables-preserved c = record {
 pub returns-clause-value : goal.returns-clause-value
 returns-clause-value c = λ turns l.
     let comma : is_sign mark.Comma (head c.variables.rest.now) ≡ false = search rules in
-    done (is_sign mark.Comma) (later_local 63 turns c.args.room c.args.ty c.args.fixed) (map stmt_of c.variables.list.items) c.variables.rest.now _ comma (c.variables.invariant.so_far turns l)
+    done (is_sign mark.Comma) (later_local 63 turns c.args.room c.args.ty c.args.fixed) (map stmt_of c.variables.list) c.variables.rest.now _ comma (c.variables.invariant.so_far turns l)

@@ -9,7 +9,7 @@ use Rattle.vk_parse_stmt.proofs.locals.local_list.Given as goal
 abbrev pub invariant-variables : goal.invariant-variables
 invariant-variables l = record {
   so_far : (turns : ℕ) → length l.syms < turns
-      → Going (is_sign mark.Comma) (later_local 63 turns l.room l.ty l.fixed) (map stmt_of l.list.items) l.rest (local_list 63 turns l.room l.ty l.fixed l.syms);
+      → Going (is_sign mark.Comma) (later_local 63 turns l.room l.ty l.fixed) (map stmt_of l.list) l.rest (local_list 63 turns l.room l.ty l.fixed l.syms);
   shorter : length l.rest + 1 ≤ length l.syms;
 }
 

@@ -1,10 +1,8 @@
-use Rattle.std.proofs.Common.{◌≡◌, true, false, Some, Err, arith, rules, lt-ltb}
+use Rattle.std.proofs.Common.{◌≡◌, true, false, Err, arith, rules, lt-ltb}
 use Rattle.vk_tokens.specs.declared.tokens.Mark.TheVariants as mark
-use Rattle.vk_grammar_expr.specs.declared.symbols.SymKind.TheVariants as kind
-use Rattle.vk_grammar_expr.specs.declared.symbols.Keyword.TheVariants as keyword
 use Rattle.vk_grammar_expr.specs.Symbols.{head}
 use Rattle.vk_grammar_expr.specs.Inner.Parser.{expect}
-use Rattle.vk_grammar_stmt.specs.Inner.Reading.{is_not, statement, do_loop, for_rest, plain, jump}
+use Rattle.vk_grammar_stmt.specs.Inner.Reading.{is_not, statement, do_loop, for_rest}
 use Rattle.vk_parse_stmt.specs.Inner.Answers.{entries}
 use Rattle.vk_parse_stmt.proofs.Blocks.{at_first, next_entry, no_entry, at_last}
 use Rattle.vk_parse_stmt.proofs.Exits.{not_read, is_err}
@@ -33,14 +31,14 @@ for_rest-returns-in_err-body-clause-value g t c = λ turns l.
 
 pub entries-entries-init : goal.entries-entries-init
 entries-entries-init g t c = record {
-  so_far = λ turns l. rw c.new-list.ensures.items (at_first (g.D.Directives.clauses c.args.directives.now) c.args.below turns c.args.syms.now l);
+  so_far = λ turns l. rw c.new-list.ensures (at_first (g.D.Directives.clauses c.args.directives.now) c.args.below turns c.args.syms.now l);
   shorter = omega arith;
 }
 
 pub entries-returns-in-Err-clause-value : goal.entries-returns-in-Err-clause-value
 entries-returns-in-Err-clause-value g t c = λ turns l.
     let inside : is_not mark.CloseBrace (head c.entries.rest.now) ≡ true = search rules in
-    no_entry (g.D.Directives.clauses c.args.directives.now) c.args.below turns c.entries.list.items c.in-Err.fail c.entries.rest.now
+    no_entry (g.D.Directives.clauses c.args.directives.now) c.args.below turns c.entries.list c.in-Err.fail c.entries.rest.now
     (entries (g.D.Directives.clauses c.args.directives.now) c.args.below turns c.args.syms.now) inside
     (c.in-Err.ensures.value turns (omega (arith, l, c.entries.invariant.shorter))) (c.entries.invariant.so_far turns l)
 
@@ -49,7 +47,7 @@ entries-entries-preserved g t c = record {
   so_far = λ turns l.
       let inside : is_not mark.CloseBrace (head c.entries.rest.now) ≡ true = search rules in
       rw c.in_ok-append.ensures
-      (next_entry (g.D.Directives.clauses c.args.directives.now) c.args.below turns c.entries.list.items c.in-Ok.read.0.items c.entries.rest.now c.in-Ok.read.1.now
+      (next_entry (g.D.Directives.clauses c.args.directives.now) c.args.below turns c.entries.list c.in-Ok.read.0 c.entries.rest.now c.in-Ok.read.1.now
       (entries (g.D.Directives.clauses c.args.directives.now) c.args.below turns c.args.syms.now) inside
       (c.in-Ok.ensures.value turns (omega (arith, l, c.entries.invariant.shorter))) c.in-Ok.ensures.shorter (c.entries.invariant.so_far turns l));
   shorter = omega (arith, c.in-Ok.ensures.shorter, c.entries.invariant.shorter);
@@ -58,20 +56,8 @@ entries-entries-preserved g t c = record {
 pub entries-returns-clause-value : goal.entries-returns-clause-value
 entries-returns-clause-value g t c = λ turns l.
     let inside : is_not mark.CloseBrace (head c.entries.rest.now) ≡ false = search rules in
-    at_last (g.D.Directives.clauses c.args.directives.now) c.args.below turns c.entries.list.items c.entries.rest.now
+    at_last (g.D.Directives.clauses c.args.directives.now) c.args.below turns c.entries.list c.entries.rest.now
     (entries (g.D.Directives.clauses c.args.directives.now) c.args.below turns c.args.syms.now) inside (c.entries.invariant.so_far turns l)
 
 pub entries-returns-clause-shorter : goal.entries-returns-clause-shorter
 entries-returns-clause-shorter g t c = c.entries.invariant.shorter
-
-pub plain-returns-in-Some-Keyword-Break-clause-value : goal.plain-returns-in-Some-Keyword-Break-clause-value
-unfolding plain jump
-plain-returns-in-Some-Keyword-Break-clause-value g t c = λ turns l.
-    let here : head c.args.syms.now ≡ Some (kind.Keyword keyword.Break) = cc in
-    rw here (c.jump.ensures.value turns)
-
-pub plain-returns-in-Some-Keyword-Continue-clause-value : goal.plain-returns-in-Some-Keyword-Continue-clause-value
-unfolding plain jump
-plain-returns-in-Some-Keyword-Continue-clause-value g t c = λ turns l.
-    let here : head c.args.syms.now ≡ Some (kind.Keyword keyword.Continue) = cc in
-    rw here (c.jump-in-Some-Keyword-Continue.ensures.value turns)

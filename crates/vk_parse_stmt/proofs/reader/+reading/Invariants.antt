@@ -49,7 +49,7 @@ decreases-one_entry g l = 10 * l.below + 4
 abbrev pub invariant-entries-entries : goal.invariant-entries-entries
 invariant-entries-entries g l = record {
   so_far : (turns : ℕ) → length l.fn.syms < turns
-      → Entering (g.D.Directives.clauses l.directives) l.below turns l.list.items l.rest (entries (g.D.Directives.clauses l.directives) l.below turns l.fn.syms);
+      → Entering (g.D.Directives.clauses l.directives) l.below turns l.list l.rest (entries (g.D.Directives.clauses l.directives) l.below turns l.fn.syms);
   shorter : length l.rest ≤ length l.fn.syms;
 }
 

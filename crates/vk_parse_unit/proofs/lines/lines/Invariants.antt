@@ -8,7 +8,7 @@ use Rattle.vk_parse_unit.proofs.lines.lines.Given as goal
 abbrev pub invariant-lines : goal.invariant-lines
 invariant-lines g l = record {
   so_far : (turns : ℕ) → length l.syms < turns
-      → Going (λ k. is_line (line_at k)) (line (g.D.Directives.clauses l.directives)) (map directive_of l.list.items) l.rest (lines (g.D.Directives.clauses l.directives) turns l.syms);
+      → Going (λ k. is_line (line_at k)) (line (g.D.Directives.clauses l.directives)) (map directive_of l.list) l.rest (lines (g.D.Directives.clauses l.directives) turns l.syms);
   shorter : length l.rest ≤ length l.syms;
 }
 

@@ -10,7 +10,7 @@ use Rattle.vk_parse_unit.proofs.objects.object_list.Given as goal
 abbrev pub invariant-objects : goal.invariant-objects
 invariant-objects l = record {
   so_far : (turns : ℕ) → length l.syms < turns
-      → Going (is_sign mark.Comma) (later_object 63 turns (type_of l.of)) (map item_of l.list.items) l.rest (object_list (type_of l.of) (named_of l.fn.name) turns l.syms);
+      → Going (is_sign mark.Comma) (later_object 63 turns (type_of l.of)) (map item_of l.list) l.rest (object_list (type_of l.of) (named_of l.fn.name) turns l.syms);
   shorter : length l.rest ≤ length l.syms;
 }
 

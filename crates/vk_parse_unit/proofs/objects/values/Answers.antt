@@ -10,20 +10,20 @@ use Rattle.vk_parse_unit.proofs.Values.{comma_shorter, values_begun, value_turne
 use Rattle.vk_parse_unit.proofs.objects.values.Goals as goal
 
 pub values-init : goal.values-init
-values-init c = record { so_far = λ turns l. rw c.new-list.ensures.items (values_begun turns c.args.syms.now l); shorter = omega arith }
+values-init c = record { so_far = λ turns l. rw c.new-list.ensures (values_begun turns c.args.syms.now l); shorter = omega arith }
 
 pub returns-in-Err-clause-value : goal.returns-in-Err-clause-value
 returns-in-Err-clause-value c = λ turns l.
     let inside : is_sign mark.CloseBrace (head c.values.rest.now) ≡ false = search rules in
-    value_stopped turns (map expr_of c.values.list.items) c.in-Err.fail c.values.rest.now (values 63 turns c.args.syms.now) inside
+    value_stopped turns (map expr_of c.values.list) c.in-Err.fail c.values.rest.now (values 63 turns c.args.syms.now) inside
     (c.in-Err.ensures.value turns (omega (arith, l, c.values.invariant.shorter))) (c.values.invariant.so_far turns l)
 
 pub returns-in_default-clause-value : goal.returns-in_default-clause-value
 returns-in_default-clause-value c = λ turns l.
     let inside : is_sign mark.CloseBrace (head c.values.rest.now) ≡ false = search rules in
     let alone : behind_comma c.in-Ok.read.1.now ≡ None = search rules in
-    rw (c.in_ok-push.ensures.items, map-append expr_of c.values.list.items (c.in-Ok.read.0.expr ∷ []))
-    (value_last turns (map expr_of c.values.list.items) (seen c.in-Ok.read.0) c.values.rest.now c.in-Ok.read.1.now (values 63 turns c.args.syms.now) inside
+    rw (c.in_ok-push.ensures, map-append expr_of c.values.list (c.in-Ok.read.0.expr ∷ []))
+    (value_last turns (map expr_of c.values.list) (seen c.in-Ok.read.0) c.values.rest.now c.in-Ok.read.1.now (values 63 turns c.args.syms.now) inside
     (c.in-Ok.ensures.value turns (omega (arith, l, c.values.invariant.shorter))) alone (c.values.invariant.so_far turns l))
 
 pub values-preserved : goal.values-preserved
@@ -33,8 +33,8 @@ values-preserved c =
     record {
       so_far = λ turns l.
           let inside : is_sign mark.CloseBrace (head c.values.rest.now) ≡ false = search rules in
-          rw (c.in_ok-push.ensures.items, map-append expr_of c.values.list.items (c.in-Ok.read.0.expr ∷ []))
-          (value_turned turns (map expr_of c.values.list.items) (seen c.in-Ok.read.0) c.values.rest.now c.in-Ok.read.1.now c.in-Some.next.now (values 63 turns c.args.syms.now) inside
+          rw (c.in_ok-push.ensures, map-append expr_of c.values.list (c.in-Ok.read.0.expr ∷ []))
+          (value_turned turns (map expr_of c.values.list) (seen c.in-Ok.read.0) c.values.rest.now c.in-Ok.read.1.now c.in-Some.next.now (values 63 turns c.args.syms.now) inside
           (c.in-Ok.ensures.value turns (omega (arith, l, c.values.invariant.shorter))) comma (omega (arith, less, c.in-Ok.ensures.shorter)) (c.values.invariant.so_far turns l));
       shorter = omega (arith, less, c.in-Ok.ensures.shorter, c.values.invariant.shorter);
     }
@@ -42,4 +42,4 @@ values-preserved c =
 pub returns-clause-value : goal.returns-clause-value
 returns-clause-value c = λ turns l.
     let ends : is_sign mark.CloseBrace (head c.values.rest.now) ≡ true = search rules in
-    values_done turns (map expr_of c.values.list.items) c.values.rest.now (values 63 turns c.args.syms.now) ends (c.values.invariant.so_far turns l)
+    values_done turns (map expr_of c.values.list) c.values.rest.now (values 63 turns c.args.syms.now) ends (c.values.invariant.so_far turns l)

@@ -6,7 +6,7 @@ use Rattle.vk_parse_unit.proofs.objects.values.Given as goal
 
 abbrev pub invariant-values : goal.invariant-values
 invariant-values l = record {
-  so_far : (turns : ℕ) → length l.syms < turns → Valued turns (map expr_of l.list.items) l.rest (values 63 turns l.syms);
+  so_far : (turns : ℕ) → length l.syms < turns → Valued turns (map expr_of l.list) l.rest (values 63 turns l.syms);
   shorter : length l.rest ≤ length l.syms;
 }
 

@@ -7,13 +7,13 @@ use Rattle.vk_parse_unit.proofs.read.whole.Goals as goal
 
 pub items-init : goal.items-init
 items-init g c = record {
-  so_far = λ turns l. rw c.new-list.ensures.items (items_begun (g.D.Directives.clauses c.args.directives.now) turns c.args.syms.now l);
+  so_far = λ turns l. rw c.new-list.ensures (items_begun (g.D.Directives.clauses c.args.directives.now) turns c.args.syms.now l);
   shorter = omega arith;
 }
 
 pub returns-in-Err : goal.returns-in-Err
 returns-in-Err g c = λ turns l.
-    items_stopped (g.D.Directives.clauses c.args.directives.now) turns (map item_of c.items.list.items) c.in-Err.fail c.items.rest.now
+    items_stopped (g.D.Directives.clauses c.args.directives.now) turns (map item_of c.items.list) c.in-Err.fail c.items.rest.now
     (items (g.D.Directives.clauses c.args.directives.now) 63 65 turns turns c.args.syms.now) (c.in-Err.ensures.value turns (omega (arith, l, c.items.invariant.shorter))) (c.items.invariant.so_far turns l)
 
 pub items-preserved : goal.items-preserved
@@ -22,8 +22,8 @@ items-preserved g c =
     let less = c.in-Ok.ensures.onwards some in
     record {
       so_far = λ turns l.
-          rw (c.in_ok-append.ensures, map-append item_of c.items.list.items c.in-Ok.read.0.items)
-          (items_turned (g.D.Directives.clauses c.args.directives.now) turns (map item_of c.items.list.items) (map item_of c.in-Ok.read.0.items) c.items.rest.now c.in-Ok.read.1.now
+          rw (c.in_ok-append.ensures, map-append item_of c.items.list c.in-Ok.read.0)
+          (items_turned (g.D.Directives.clauses c.args.directives.now) turns (map item_of c.items.list) (map item_of c.in-Ok.read.0) c.items.rest.now c.in-Ok.read.1.now
           (items (g.D.Directives.clauses c.args.directives.now) 63 65 turns turns c.args.syms.now) (c.in-Ok.ensures.value turns (omega (arith, l, c.items.invariant.shorter))) less
           (c.items.invariant.so_far turns l));
       shorter = omega (arith, less, c.items.invariant.shorter);
@@ -32,5 +32,5 @@ items-preserved g c =
 pub returns : goal.returns
 returns g c = λ turns l.
     let ends : length c.items.rest.now ≡ 0 = search rules in
-    items_done (g.D.Directives.clauses c.args.directives.now) turns (map item_of c.items.list.items) c.items.rest.now
+    items_done (g.D.Directives.clauses c.args.directives.now) turns (map item_of c.items.list) c.items.rest.now
     (items (g.D.Directives.clauses c.args.directives.now) 63 65 turns turns c.args.syms.now) ends (c.items.invariant.so_far turns l)

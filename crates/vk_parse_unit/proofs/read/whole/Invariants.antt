@@ -7,7 +7,7 @@ use Rattle.vk_parse_unit.proofs.read.whole.Given as goal
 abbrev pub invariant-items : goal.invariant-items
 invariant-items g l = record {
   so_far : (turns : ℕ) → length l.syms < turns
-      → Taken (g.D.Directives.clauses l.directives) turns (map item_of l.list.items) l.rest (items (g.D.Directives.clauses l.directives) 63 65 turns turns l.syms);
+      → Taken (g.D.Directives.clauses l.directives) turns (map item_of l.list) l.rest (items (g.D.Directives.clauses l.directives) 63 65 turns turns l.syms);
   shorter : length l.rest ≤ length l.syms;
 }
 

@@ -1,7 +1,7 @@
 use Rattle.std.proofs.Common.{◌≡◌, ◌++◌, OnOk, sym, ap, ◌∙◌, rules}
 use Rattle.std.proofs.lemmas.List.{map-id}
 use Rattle.std.proofs.lemmas.Iterator.Adapters.{fact_from_extend, YieldsList-from_vec}
-use Rattle.vk_parse_stmt.proofs.lists.append.Goals as goal
+use Rattle.vk_nodes.proofs.lists.append.Goals as goal
 
 pub returns : goal.returns
 returns g c =
