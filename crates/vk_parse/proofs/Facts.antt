@@ -78,7 +78,7 @@ module _ (names : List (List ℕ)) (ts : List Token) (all : Clauses) (are : HasC
       → IsDeepPlace (IsText other) (IsTextWithin other 64 65) w n
   deep_for n p other q = subst (λ c. IsDeepPlace (IsText c) (IsTextWithin c 64 65) w n) (one_clauses names ts all other are q) p
 
-  back : (n : ℕ) (other : Clauses) → HasClauses names ts other → IsPlace (IsText other) w n → IsPlace (IsText all) w n
+  pub back : (n : ℕ) (other : Clauses) → HasClauses names ts other → IsPlace (IsText other) w n → IsPlace (IsText all) w n
   back n other q p = subst (λ c. IsPlace (IsText c) w n) (one_clauses names ts other all q are) p
 
   -- the first fault of words, or none
@@ -100,7 +100,7 @@ module _ (names : List (List ℕ)) (ts : List Token) (all : Clauses) (are : HasC
   in_deep : (n : ℕ) → IsDeepPlace (IsText all) (IsTextWithin all 64 65) w n → n ≤ length w
   in_deep n p = omega (arith, p.left, ap length p.parts, length-append p.before (p.at ∷ p.rest))
 
-  syntax_is : (n : ℕ) (words : Option ℕ) → IsPlace (IsText all) w n → Words words → IsAnswer names ts (Err (first_of C5 n words))
+  pub syntax_is : (n : ℕ) (words : Option ℕ) → IsPlace (IsText all) w n → Words words → IsAnswer names ts (Err (first_of C5 n words))
   syntax_is n None p c = ((placed_for n p, λ m f. absurd (none_at c.1 m f)), in_place n p)
   syntax_is n (Some k) p c =
       elim (cases_lt k n) [
@@ -112,7 +112,7 @@ module _ (names : List (List ℕ)) (ts : List Token) (all : Clauses) (are : HasC
             rw e ((c.0, λ other m q at. omega (arith, before, one_place (back m other q at) p)), in_c7 k c.0)
       ]
 
-  deep_is : (n : ℕ) (words : Option ℕ) → IsDeepPlace (IsText all) (IsTextWithin all 64 65) w n → Words words → IsAnswer names ts (Err (first_of C6 n words))
+  pub deep_is : (n : ℕ) (words : Option ℕ) → IsDeepPlace (IsText all) (IsTextWithin all 64 65) w n → Words words → IsAnswer names ts (Err (first_of C6 n words))
   deep_is n None p c = ((deep_for n p, λ m f. absurd (none_at c.1 m f)), in_deep n p)
   deep_is n (Some k) p c =
       elim (cases_lt k n) [
