@@ -1,6 +1,6 @@
 // Lines of clauses with what they say, by hand from the forms of clauses.
 
-use crate::front::{front, tower};
+use crate::front::{front_of, tower};
 use crate::print::Printer;
 use std::test::Fail;
 use vk_parse_directives::{read_clauses, read_directive};
@@ -77,7 +77,7 @@ static LEVELS: [(u32, bool); 2] = [(63, false), (64, true)];
 fn reads_clauses(rt: HostRuntime) -> Result<(), Fail> {
     let alloc = rt.alloc();
     for (text, want) in &LINES {
-        let front = front(&rt, alloc, text)?;
+        let front = front_of(&rt, alloc, text)?;
         let names = &front.tokens.names;
         let clauses = read_clauses(alloc, names, &front.syms.outside).map_err(|_| "no memory")?;
         let found = Printer { alloc, names }.clauses(&clauses)?;
@@ -92,7 +92,7 @@ fn reads_no_expression_of_more_than_64_levels(rt: HostRuntime) -> Result<(), Fai
     for (levels, is_other) in &LEVELS {
         let value = tower(alloc, "- ", *levels, "1", "")?;
         let text = format!(in alloc; "simdlen ( {value} )")?;
-        let front = front(&rt, alloc, text.as_str())?;
+        let front = front_of(&rt, alloc, text.as_str())?;
         let names = &front.tokens.names;
         let clauses = read_clauses(alloc, names, &front.syms.outside).map_err(|_| "no memory")?;
         assert_eq!(rt; clauses.len(), 1);
@@ -107,7 +107,7 @@ fn reads_the_directive_of_a_line(rt: HostRuntime) -> Result<(), Fail> {
     let alloc = rt.alloc();
     let text =
         "#pragma omp declare simd inbranch\n\n#pragma omp declare simd simdlen ( 4 ) notinbranch\n";
-    let front = front(&rt, alloc, text)?;
+    let front = front_of(&rt, alloc, text)?;
     let names = &front.tokens.names;
     let syms = &front.syms;
     assert_eq!(rt; syms.lines.len(), 2);

@@ -1,6 +1,6 @@
 // Texts of expressions with their trees or faults, both by hand from the grammar.
 
-use crate::front::{front, tower};
+use crate::front::{front_of, tower};
 use crate::print::{Printer, fault};
 use std::test::Fail;
 use vk_parse_expr::{High, read_expr};
@@ -124,7 +124,7 @@ static TOWERS: [(&str, u32, &str, &str, &str); 17] = [
 fn reads_expressions(rt: HostRuntime) -> Result<(), Fail> {
     let alloc = rt.alloc();
     for (text, want) in &TEXTS {
-        let front = front(&rt, alloc, text)?;
+        let front = front_of(&rt, alloc, text)?;
         let printer = Printer {
             alloc,
             names: &front.tokens.names,
@@ -143,7 +143,7 @@ fn counts_levels_of_expressions(rt: HostRuntime) -> Result<(), Fail> {
     let alloc = rt.alloc();
     for (open, times, middle, close, want) in &TOWERS {
         let text = tower(alloc, open, *times, middle, close)?;
-        let front = front(&rt, alloc, text.as_str())?;
+        let front = front_of(&rt, alloc, text.as_str())?;
         let found = match read_expr(alloc, &front.syms.outside) {
             Ok(High { height, .. }) => format!(in alloc; "{height}")?,
             Err(fail) => fault(alloc, fail)?,

@@ -15,7 +15,7 @@ pub(crate) struct Front {
 }
 
 /// The tokens of a text that has some.
-pub(crate) fn front(rt: &impl Abort, alloc: Global, text: &str) -> Result<Front, Fail> {
+pub(crate) fn front_of(rt: &impl Abort, alloc: Global, text: &str) -> Result<Front, Fail> {
     assert!(rt; text.len() < 100000, "{text}");
     let tokens = lex(alloc, text.as_bytes()).map_err(|_| "no tokens")?;
     let syms = classify(alloc, &tokens).map_err(|_| "no memory")?;

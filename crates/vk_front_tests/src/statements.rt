@@ -1,6 +1,6 @@
 // Blocks of functions with their trees or faults, both by hand from the grammar.
 
-use crate::front::{front, tower};
+use crate::front::{front_of, tower};
 use crate::print::{Printer, fault};
 use crate::units::NoClauses;
 use std::test::Fail;
@@ -119,7 +119,7 @@ static TOWERS: [(&str, &str, u32, &str, &str, &str); 8] = [
 fn reads_blocks(rt: HostRuntime) -> Result<(), Fail> {
     let alloc = rt.alloc();
     for (text, want) in &TEXTS {
-        let front = front(&rt, alloc, text)?;
+        let front = front_of(&rt, alloc, text)?;
         let printer = Printer {
             alloc,
             names: &front.tokens.names,
@@ -144,7 +144,7 @@ fn counts_levels_of_statements(rt: HostRuntime) -> Result<(), Fail> {
     for (before, open, times, middle, close, want) in &TOWERS {
         let behind = tower(alloc, open, *times, middle, close)?;
         let text = format!(in alloc; "{before}{behind}")?;
-        let front = front(&rt, alloc, text.as_str())?;
+        let front = front_of(&rt, alloc, text.as_str())?;
         let found = match read_body(alloc, &NoClauses, &front.syms.outside) {
             Ok(_) => format!(in alloc; "ok")?,
             Err(fail) => fault(alloc, fail)?,

@@ -2,7 +2,7 @@
 
 ghost use Rattle.std.specs.Prelude.{[]};
 
-use crate::front::{front, tower};
+use crate::front::{front_of, tower};
 use crate::print::{Printer, fault, refusal};
 use std::alloc::{AllocError, Global};
 use std::test::Fail;
@@ -166,7 +166,7 @@ impl Directives for NoClauses {
 fn reads_items(rt: HostRuntime) -> Result<(), Fail> {
     let alloc = rt.alloc();
     for (text, want) in &TEXTS {
-        let front = front(&rt, alloc, text)?;
+        let front = front_of(&rt, alloc, text)?;
         let printer = Printer {
             alloc,
             names: &front.tokens.names,
@@ -186,7 +186,7 @@ fn counts_levels_of_units(rt: HostRuntime) -> Result<(), Fail> {
     for (before, open, times, middle, close, want) in &TOWERS {
         let behind = tower(alloc, open, *times, middle, close)?;
         let text = format!(in alloc; "{before}{behind}")?;
-        let front = front(&rt, alloc, text.as_str())?;
+        let front = front_of(&rt, alloc, text.as_str())?;
         let found = match read_unit(alloc, &NoClauses, &front.syms.outside) {
             Ok(_) => format!(in alloc; "ok")?,
             Err(fail) => fault(alloc, fail)?,

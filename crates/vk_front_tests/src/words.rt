@@ -1,6 +1,6 @@
 // Words by the lists of the standard, lines of directives, and the places of C7 by hand from the rule.
 
-use crate::front::front;
+use crate::front::front_of;
 use crate::print::Printer;
 use std::alloc::AllocError;
 use std::test::Fail;
@@ -99,7 +99,7 @@ fn shown(printer: &Printer, syms: &[Sym]) -> Result<String, AllocError> {
 fn tells_words_apart(rt: HostRuntime) -> Result<(), Fail> {
     let alloc = rt.alloc();
     for (word, want) in &WORDS {
-        let front = front(&rt, alloc, word)?;
+        let front = front_of(&rt, alloc, word)?;
         let printer = Printer {
             alloc,
             names: &front.tokens.names,
@@ -117,7 +117,7 @@ fn tells_words_apart(rt: HostRuntime) -> Result<(), Fail> {
 fn takes_directive_lines_apart(rt: HostRuntime) -> Result<(), Fail> {
     let alloc = rt.alloc();
     for (text, outside, lines) in &LINES {
-        let front = front(&rt, alloc, text)?;
+        let front = front_of(&rt, alloc, text)?;
         let printer = Printer {
             alloc,
             names: &front.tokens.names,
@@ -137,7 +137,7 @@ fn takes_directive_lines_apart(rt: HostRuntime) -> Result<(), Fail> {
 #[test]
 fn finds_the_first_place(rt: HostRuntime) -> Result<(), Fail> {
     for (text, want) in &PLACES {
-        let front = front(&rt, rt.alloc(), text)?;
+        let front = front_of(&rt, rt.alloc(), text)?;
         assert!(rt; first_word_fault(&front.syms.outside) == *want, "{text}");
     }
     Ok(())

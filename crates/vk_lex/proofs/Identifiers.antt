@@ -1,5 +1,5 @@
 -- The names of a unit are identifiers.
-use Rattle.std.proofs.Common.{◌≡◌, ℕ, suc, ◌+◌, Bool, true, false, ◌&&◌, ◌||◌, not, List, [], ◌∷◌, take, length, slice_get, cond, Option, Some, None, inl, inr, refl, sym, ap, subst, ◌∙◌, arith}
+use Rattle.std.proofs.Common.{◌≡◌, ℕ, suc, ◌+◌, Bool, true, false, ◌&&◌, ◌||◌, not, List, [], ◌∷◌, take, length, cond, Option, Some, None, inl, inr, refl, sym, ap, subst, ◌∙◌, arith}
 use Rattle.std.proofs.lemmas.Bool.{false≢true, cases_Bool}
 use Rattle.std.specs.Char.{is_ascii_digit}
 use Rattle.std.specs.Cmp.Lexicographic.{pointwise, same_text}
@@ -9,7 +9,7 @@ use Rattle.vk_tokens.specs.declared.tokens.Token.{Token}
 use Rattle.vk_lex.specs.Characters.{is_word_byte, is_word_start, run, line_of}
 use Rattle.vk_lex.specs.Headings.{Heading, an_include, a_pragma, a_directive, IsDirective, a_simd, a_simdfn}
 use Rattle.vk_lex.specs.Lexing.{IsToken, a_name, a_number, a_sign, ended, IsPiece, a_blank, a_newline, a_comment, a_heading, a_token, an_idle_byte, with_kind, Reads, at_end, a_piece}
-use Rattle.vk_lex.specs.Tables.{AreTokens, words_of, names_of}
+use Rattle.vk_lex.specs.Tables.{AreTokens, words_of}
 use Rattle.vk_lex.specs.Tokens.{Kind, word, integer, sign, simdfn, simd, line_end, Tok, tok_of, IsIdentifier, AreIdentifiers}
 use Rattle.vk_lex.specs.declared.pieces.Mode.{Mode}
 use Rattle.vk_lex.specs.declared.pieces.Mode.TheVariants.{Start, Inside, Directive, Idle}

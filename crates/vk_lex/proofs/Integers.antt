@@ -1,15 +1,15 @@
 -- What the literal of a text tells is so in the standard's words.
-use Rattle.std.proofs.Common.{◌≡◌, ℕ, zero, suc, ◌+◌, ◌*◌, ◌^◌, Bool, true, false, ◌&&◌, ◌||◌, ◌==◌, nat_lt, List, [], ◌∷◌, ◌++◌, codes, length, take, drop, cond, Option, Some, None, Result, Ok, Err, ◌⊎◌, inl, inr, refl, sym, ap, ap₂, subst, ◌∙◌, arith, if◌then◌else◌}
+use Rattle.std.proofs.Common.{◌≡◌, ℕ, suc, ◌+◌, ◌*◌, ◌^◌, Bool, true, false, ◌&&◌, ◌||◌, ◌==◌, nat_lt, List, [], ◌∷◌, ◌++◌, codes, length, take, drop, Option, Some, None, Result, Ok, Err, ◌⊎◌, inl, inr, refl, sym, ap, ap₂, subst, ◌∙◌, arith, if◌then◌else◌}
 use Rattle.std.proofs.Math.Nat.{add-mul, add_assoc, mul_assoc, pow-succ', pow-zero, zero-mul}
 use Rattle.std.proofs.lemmas.Bool.{cases_Bool, false≢true, eqb-true}
 use Rattle.std.proofs.lemmas.List.{take-append-drop}
 use Rattle.std.proofs.lemmas.Option.{none-some}
 use Rattle.std.specs.Char.{is_ascii_digit, is_ascii_hexdigit}
-use Rattle.std.specs.List.{list_all, prefix_len}
+use Rattle.std.specs.List.{prefix_len}
 use Rattle.std.specs.Option.{unwrap_or}
 use Rattle.vk_types.specs.declared.types.Ty.{Ty}
 use Rattle.vk_unit_rules.specs.declared.rules.UnitRule.{UnitRule}
-use Rattle.vk_unit_rules.specs.declared.rules.UnitRule.TheVariants.{C1, C3}
+use Rattle.vk_unit_rules.specs.declared.rules.UnitRule.TheVariants.{C3}
 use Rattle.vk_lex.specs.declared.literals.Base.{Base}
 use Rattle.vk_lex.specs.declared.literals.Base.TheVariants.{Decimal, Octal, Hexadecimal}
 use Rattle.vk_lex.specs.declared.literals.Suffix.{Suffix}
@@ -122,7 +122,7 @@ suffix_is text s e =
       | inl t ↦ first_suffix text s t (sym (ap (λ b. if b then suffix true (drop 1 text) else if begins_unsigned rest then both_sides else suffix false text) t) ∙ e)
       | inr f ↦
           let later : (if begins_unsigned rest then both_sides else suffix false text) ≡ Some s =
-            sym (ap (λ b. if b then suffix true (drop 1 text) else if begins_unsigned rest then both_sides else suffix false text) f) ∙ e in
+          sym (ap (λ b. if b then suffix true (drop 1 text) else if begins_unsigned rest then both_sides else suffix false text) f) ∙ e in
           elim (cases_Bool (begins_unsigned rest)) [
             | inl t ↦ subst (λ (x : List ℕ). IsSuffix x s) (take-append-drop n text)
                 (last_suffix (take n text) rest (nat_lt 0 n) s (long_front text) t (sym (ap (λ b. if b then both_sides else suffix false text) t) ∙ later))

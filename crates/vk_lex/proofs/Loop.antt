@@ -1,24 +1,20 @@
 -- Reading the tokens of a text, piece by piece.
-use Rattle.std.proofs.Common.{◌≡◌, ℕ, zero, suc, ◌+◌, ◌<◌, ◌≤◌, Bool, true, false, ◌&&◌, ◌==◌, not, List, [], ◌∷◌, ◌++◌, map, take, drop, length, slice_get, get_or, cond, Option, Some, None, inl, inr, refl, sym, ap, ap₂, subst, ◌∙◌, append_assoc, arith, if◌then◌else◌}
-use Rattle.std.proofs.lemmas.Bool.{false≢true, cases_Bool}
+use Rattle.std.proofs.Common.{◌≡◌, ℕ, zero, suc, ◌+◌, ◌<◌, ◌≤◌, Bool, true, false, ◌&&◌, ◌==◌, List, [], ◌∷◌, ◌++◌, map, drop, length, slice_get, get_or, Option, Some, None, refl, sym, ap, ap₂, subst, ◌∙◌, append_assoc, arith, if◌then◌else◌}
 use Rattle.std.proofs.lemmas.List.{append-nil, length-append, map-append, length-map, length-drop}
 use Rattle.std.proofs.lemmas.Option.{none-some, slice_get-get_or, slice_get_within}
-use Rattle.std.specs.Char.{is_ascii_digit}
-use Rattle.std.specs.Prelude.{slice_index}
-use Rattle.std.specs.List.{All, list_all, prefix_len}
+use Rattle.std.specs.List.{All}
 use Rattle.std.specs.Option.{unwrap_or}
 use Rattle.vk_tokens.specs.declared.tokens.Token.{Token}
 use Rattle.vk_tokens.specs.declared.tokens.TokenKind.{TokenKind}
 use Rattle.vk_tokens.specs.declared.tokens.TokenKind.TheVariants.{Name, Int, Sign, Simdfn, Simd, LineEnd}
 use Rattle.vk_unit_rules.specs.declared.rules.UnitRule.{UnitRule}
-use Rattle.vk_lex.specs.Characters.{Char, numbered, joined, characters, text_of, line_of, is_word_byte, is_word_start, run, begins, begins_two}
+use Rattle.vk_lex.specs.Characters.{Char, numbered, joined, characters, text_of, line_of, begins, begins_two}
 use Rattle.vk_tokens.specs.Names.{IsNamed}
-use Rattle.vk_lex.specs.Tokens.{Kind, word, integer, sign, simdfn, simd, line_end, Tok, tok_of, kind_of, IsIdentifier, AreIdentifiers, TellsOne, Tells, with_name}
+use Rattle.vk_lex.specs.Tokens.{Kind, word, Tok, tok_of, kind_of, TellsOne, Tells, with_name}
 use Rattle.vk_lex.specs.Tables.{names_of}
 use Rattle.vk_lex.specs.declared.pieces.Mode.{Mode}
 use Rattle.vk_lex.specs.declared.pieces.Mode.TheVariants.{Start, Inside, Directive, Idle}
-use Rattle.vk_lex.specs.Headings.{Heading, an_include, a_pragma, a_directive, IsDirective, a_simd, a_simdfn}
-use Rattle.vk_lex.specs.Lexing.{IsToken, a_name, a_number, a_sign, ended, IsPiece, a_blank, a_newline, a_comment, a_heading, a_token, an_idle_byte, IsFault, with_kind, Reads, at_end, a_piece, Fails, here, later, Lexes, Refuses}
+use Rattle.vk_lex.specs.Lexing.{ended, IsPiece, IsFault, with_kind, Reads, at_end, a_piece, Fails, here, later, Lexes, Refuses}
 use Rattle.vk_lex.proofs.Firsts.{names_more}
 use Rattle.vk_lex.proofs.Lengths.{owed, piece_length, piece_owed}
 use Rattle.vk_lex.proofs.Steps.{one_piece, piece_or_fault, one_fault}

@@ -1,5 +1,5 @@
 -- The first punctuator of the code's list that begins a text is the longest one that does.
-use Rattle.std.proofs.Common.{◌≡◌, ℕ, ◌≤◌, ◌<◌, Bool, true, false, ◌&&◌, ◌||◌, nat_le, List, [], ◌∷◌, length, take, Option, Some, None, refl, sym, ap, ◌∙◌, inl, inr, arith, rules, if◌then◌else◌}
+use Rattle.std.proofs.Common.{◌≡◌, ℕ, ◌≤◌, Bool, true, false, ◌&&◌, ◌||◌, nat_le, List, [], ◌∷◌, length, take, Option, Some, None, refl, sym, ap, ◌∙◌, inl, inr, arith, rules, if◌then◌else◌}
 use Rattle.std.proofs.lemmas.Bool.{cases_Bool, false≢true}
 use Rattle.std.proofs.lemmas.Bool.Decides.{nat_tests}
 use Rattle.std.proofs.lemmas.Option.{none-some}
@@ -8,7 +8,6 @@ use Rattle.std.specs.List.{list_any}
 use Rattle.std.specs.Option.{unwrap_or}
 use Rattle.std.specs.Prelude.{nat_eq}
 use Rattle.vk_tokens.specs.declared.tokens.Mark.{Mark}
-use Rattle.vk_tokens.specs.declared.tokens.Mark.TheVariants.{OpenParen, CloseParen, OpenBracket, CloseBracket, OpenBrace, CloseBrace, Semicolon, Comma, Question, Colon, Assign, AddAssign, SubAssign, MulAssign, DivAssign, RemAssign, AndAssign, OrAssign, XorAssign, ShlAssign, ShrAssign, Increment, Decrement, Plus, Minus, Star, Slash, Percent, Ampersand, Bar, Caret, Tilde, Bang, ShiftLeft, ShiftRight, EqualEqual, NotEqual, Less, Greater, LessEqual, GreaterEqual, AndAnd, OrOr}
 use Rattle.vk_lex.specs.Signs.{mark_text, begins_mark, IsLongest, HasNoMark}
 use Rattle.vk_lex.specs.Inner.Signs.{marks, first_front, sign_at}
 
@@ -53,10 +52,14 @@ first_long n [] text other d e b = absurd (false≢true e)
 first_long n (m ∷ ms) text other d e b =
     let parts = both (nat_le (length (mark_text m)) n) (descends (length (mark_text m)) ms) d in
     elim (cases_Bool (begins_mark m text)) [
-      | inl t ↦ (m, ap (λ c. if c then Some m else first_front ms text) t, elim (cases_Bool (same other m)) [
-        | inl s ↦ omega (arith, same_length other m s)
-        | inr f ↦ at_most (length (mark_text m)) ms other parts.1 (sym (ap (λ c. c || list_any (same other) ms) f) ∙ e)
-      ])
+      | inl t ↦ (
+        m,
+        ap (λ c. if c then Some m else first_front ms text) t,
+        elim (cases_Bool (same other m)) [
+          | inl s ↦ omega (arith, same_length other m s)
+          | inr f ↦ at_most (length (mark_text m)) ms other parts.1 (sym (ap (λ c. c || list_any (same other) ms) f) ∙ e)
+        ],
+      )
       | inr f ↦ elim (cases_Bool (same other m)) [
         | inl s ↦ absurd (false≢true (sym f ∙ sym (ap (λ (t : List ℕ). pointwise nat_eq t (take (length t) text)) (same_text (mark_text other) (mark_text m) (sym s))) ∙ b))
         | inr g ↦

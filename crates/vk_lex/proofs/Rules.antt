@@ -1,8 +1,7 @@
 -- The rules by which bytes have no tokens.
-use Rattle.std.proofs.Common.{◌≡◌, ℕ, List, Option, Some, None, Result, Ok, Err, refl, ap, sym, subst, ◌∙◌}
+use Rattle.std.proofs.Common.{ℕ, List, Option, Some, None, Result, Ok, Err, subst}
 use Rattle.vk_types.specs.declared.types.Ty.{Ty}
 use Rattle.vk_unit_rules.specs.declared.rules.UnitRule.{UnitRule}
-use Rattle.vk_unit_rules.specs.declared.rules.UnitRule.TheVariants.{C1, C3}
 use Rattle.vk_lex.specs.declared.literals.Base.{Base}
 use Rattle.vk_lex.specs.declared.literals.Suffix.{Suffix}
 use Rattle.vk_lex.specs.declared.pieces.Mode.{Mode}

@@ -139,13 +139,16 @@ table_of : (bytes : List ℕ) (ts : List Tok) → Lexes bytes ts → HasTokens b
 table_of bytes ts lexes =
     let names = names_of ts in
     let knows : Knows names ts = λ w. among_firsts (words_of ts) w in
-    let again = forth names ts knows in
-    (names, map (token_again names) ts, record {
-      lexes = subst (Lexes bytes) (sym again) lexes;
-      named = all_back names ts knows;
-      distinct = firsts_distinct (words_of ts);
-      order = ap names_of (sym again);
-    })
+    let again = forth names ts knows in (
+      names,
+      map (token_again names) ts,
+      record {
+        lexes = subst (Lexes bytes) (sym again) lexes;
+        named = all_back names ts knows;
+        distinct = firsts_distinct (words_of ts);
+        order = ap names_of (sym again);
+      },
+    )
 
 -- ---- answers
 

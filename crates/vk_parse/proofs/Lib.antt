@@ -2,3 +2,4 @@ mod Copying
 mod Deep
 pub mod Facts
 mod Numbers
+pub mod Total

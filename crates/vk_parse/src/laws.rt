@@ -1,10 +1,16 @@
 //! What the definitions of units and their faults mean.
 
-ghost use Rattle.std.specs.Prelude.{◌≡◌, ℕ, List};
+ghost use Rattle.std.specs.Prelude.{◌≡◌, ◌⊎◌, ℕ, List};
 ghost use Rattle.vk_ast.specs.Units.{ItemTree};
 ghost use Rattle.vk_tokens.specs.declared.tokens.Token.{Token};
 ghost use Rattle.vk_unit_rules.specs.declared.rules.UnitRule.{UnitRule};
 ghost use Rattle.vk_parse.specs.Parsing.{Parses, IsWithin, KeepsWords, IsFaultAt};
+ghost use Rattle.vk_parse.specs.Readings.{HasUnit, HasFault};
+
+/// All tokens are a unit that keeps the rules C5 to C7, or have a fault of them.
+pub fn some_answer()
+    ensures { (names : List (List ℕ)) (ts : List Token) (last : ℕ) → HasUnit names ts ⊎ HasFault names ts last }
+{}
 
 /// Tokens have one list of items at most, and none within the rules where there is a fault of them.
 pub fn one_answer()
