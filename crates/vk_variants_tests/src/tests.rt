@@ -1,7 +1,9 @@
 use crate::tables::{ARM_ROWS, EXAMPLES, LANES, Row, SIMDLEN_ROWS, SIZES, WIDTHS, X86_ROWS};
 use std::alloc::Global;
 use std::process::Abort;
-use vk_kinds::{Branch, CType, Head, Isa, Len, Params, Signature, Types, cdt, has_sve_width, lanes_at, nds, wds};
+use vk_kinds::{
+    Branch, CType, Head, Isa, Len, Params, Signature, Types, cdt, has_sve_width, lanes_at, nds, wds,
+};
 use vk_memory::Memory;
 use vk_names::read_name;
 use vk_types::Ty;
