@@ -11,14 +11,13 @@ use Rattle.vk_grammar_expr.proofs.Places.{place_no_text}
 use Rattle.vk_grammar_stmt.specs.Trees.{Clauses}
 use Rattle.vk_grammar_unit.specs.Inner.Reading.{whole_unit}
 use Rattle.vk_grammar_unit.proofs.Theorem.{found, refused, deep, ends}
-use Rattle.vk_parse_words.specs.Lines.{outside, clauses as clause_tokens}
+use Rattle.vk_parse_words.specs.Lines.{outside}
 use Rattle.vk_parse_words.specs.Faults.{is_fault, IsC7}
-use Rattle.vk_parse_directives.specs.Inner.Reading.{clauses_of}
-use Rattle.vk_parse_directives.proofs.Known.{all_found}
-use Rattle.vk_parse.specs.Parsing.{HasClauses, IsFaultAt, line_of_place}
+use Rattle.vk_parse_directives.specs.Directives.{unit_clauses}
+use Rattle.vk_parse.specs.Parsing.{IsFaultAt, line_of_place}
 use Rattle.vk_parse.specs.Readings.{HasUnit, HasFault}
 use Rattle.vk_parse.specs.Inner.Answers.{first_of, IsAnswer}
-use Rattle.vk_parse.proofs.Facts.{Words, back, syntax_is, deep_is}
+use Rattle.vk_parse.proofs.Facts.{Words, syntax_is, deep_is}
 
 -- ---- the place of C7
 
@@ -64,14 +63,10 @@ module _ (names : List (List ℕ)) (ts : List Token) where
   told rule n None a = (rule, n, a.0)
   told rule n (Some k) a = of_both rule n k (nat_lt k n) refl a
 
-  all : Clauses
-  all n = clauses_of names (clause_tokens names ts n)
+  abbrev all : Clauses
+  all = unit_clauses names ts
 
-  are : HasClauses names ts all
-  unfolding all
-  are n = all_found names (clause_tokens names ts n)
-
-  words : (words : Option ℕ) × Words names ts all are words
+  words : (words : Option ℕ) × Words names ts words
   words = elim (word_place (outside names ts)) [
     | inl c ↦ (Some c.0, (c.1, λ n d. ap Some (one_place (outside names ts) c.1 d)))
     | inr none ↦ (None, (tt, λ n d. absurd (none n d)))
@@ -87,11 +82,11 @@ module _ (names : List (List ℕ)) (ts : List Token) where
   read_is list rest e =
       let f = found all 63 65 turns (outside names ts) list rest e in
       elim (word_place (outside names ts)) [
-        | inl c ↦ inr (C7, c.0, (c.1, λ other m q at. absurd (place_no_text (back names ts all are m other q at) (list, (f.0, f.1.0)))))
+        | inl c ↦ inr (C7, c.0, (c.1, λ m at. absurd (place_no_text at (list, (f.0, f.1.0)))))
         | inr none ↦ inl (
           list,
           f.0,
-          record { clauses = all; are = are; items_are = f.1.0 },
+          record { items_are = f.1.0 },
           record { expressions = f.1.1.0; statements = f.1.1.1 },
           none,
         )
@@ -100,8 +95,8 @@ module _ (names : List (List ℕ)) (ts : List Token) where
   by : (read : Result (List ItemTree × List Sym) Fault) → whole_unit all 63 65 turns (outside names ts) ≡ read → Unit_or_fault
   unfolding turns
   by (Ok r) e = read_is r.0 r.1 e
-  by (Err (Syntax n)) e = inr (told C5 n words.0 (syntax_is names ts all are n words.0 (refused all 63 65 turns (outside names ts) n e) words.1))
-  by (Err (Deep n)) e = inr (told C6 n words.0 (deep_is names ts all are n words.0 (deep all 63 65 turns (outside names ts) n e) words.1))
+  by (Err (Syntax n)) e = inr (told C5 n words.0 (syntax_is names ts n words.0 (refused all 63 65 turns (outside names ts) n e) words.1))
+  by (Err (Deep n)) e = inr (told C6 n words.0 (deep_is names ts n words.0 (deep all 63 65 turns (outside names ts) n e) words.1))
   by (Err Spent) e = absurd (ends all 63 65 turns (outside names ts) (omega arith) e)
 
   with_line : (last : ℕ) → Unit_or_fault → HasUnit names ts ⊎ HasFault names ts last
