@@ -130,7 +130,7 @@ fn reads_expressions(rt: HostRuntime) -> Result<(), Fail> {
             names: &front.tokens.names,
         };
         let found = match read_expr(alloc, &front.syms.outside) {
-            Ok(read) => printer.expr(&read.expr)?,
+            Ok(read) => printer.expr(&read.expr.into_expr())?,
             Err(fail) => fault(alloc, fail)?,
         };
         assert!(rt; found.as_str() == *want, "{text}");

@@ -4,7 +4,7 @@ use std::alloc::{AllocError, Global};
 use std::str;
 use vk_ast::{
     Clause, ClauseKind, Directive, Expr, ExprKind, Function, Item, NameId, NameTable, Object,
-    ParamDecl, Stmt, StmtKind,
+    ParamDecl, PlacedName, Stmt, StmtKind,
 };
 use vk_grammar_expr::{Sym, SymKind};
 use vk_kinds::CType;
@@ -177,10 +177,10 @@ impl Printer<'_> {
 
     // ---- directives
 
-    fn ids(&self, ids: &[NameId]) -> Result<String, AllocError> {
+    fn ids(&self, ids: &[PlacedName]) -> Result<String, AllocError> {
         let mut text = String::new(self.alloc);
         for id in ids {
-            self.behind(&mut text, self.name(*id))?;
+            self.behind(&mut text, self.name(id.name))?;
         }
         Ok(text)
     }

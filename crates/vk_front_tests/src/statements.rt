@@ -125,9 +125,9 @@ fn reads_blocks(rt: HostRuntime) -> Result<(), Fail> {
             names: &front.tokens.names,
         };
         let found = match read_body(alloc, &NoClauses, &front.syms.outside) {
-            Ok((body, [])) => printer.stmt(&body)?,
+            Ok((body, [])) => printer.stmt(&body.into_stmt())?,
             Ok((body, rest)) => {
-                let tree = printer.stmt(&body)?;
+                let tree = printer.stmt(&body.into_stmt())?;
                 let left = rest.len();
                 format!(in alloc; "{tree} +{left}")?
             }
