@@ -8,7 +8,7 @@ ghost use Rattle.std.specs.Option.{option_map};
 ghost use Rattle.vk_unit_rules.specs.declared.rules.UnitFail.TheVariants.{Memory as MemoryFail};
 ghost use Rattle.vk_lex.specs.Lexing.{Lexes, Refuses};
 ghost use Rattle.vk_lex.specs.Tables.{AreTokens};
-ghost use Rattle.vk_lex.specs.Inner.Answers.{IsTokensOrMemory, IsFaultOrMemory, IsRefusedOrMemory};
+ghost use Rattle.vk_lex.specs.Answers.{IsTokensOrMemory, IsFaultOrMemory, IsRefusedOrMemory};
 ghost use Rattle.vk_unit_rules.specs.declared.rules.UnitRule.{UnitRule as UnitRuleOf};
 
 use crate::characters::{Characters, characters_of};
