@@ -12,20 +12,31 @@ pub struct Directive {
     pub clauses: Vec<Clause>,
 }
 
-/// A clause, with the number of its first token.
+/// A clause, with the line and the number of its first token. A directive may go over several lines.
 #[derive(Drop)]
 pub struct Clause {
+    pub line: u32,
     pub token: u32,
     pub kind: ClauseKind,
+    /// Each identifier in it, its words too, in the order of the text; none where the clause is `Other`.
+    pub names: Vec<PlacedName>,
+}
+
+/// A name where it stands.
+#[derive(Clone, Copy, PartialEq, Eq, Debug)]
+pub struct PlacedName {
+    pub line: u32,
+    pub token: u32,
+    pub name: NameId,
 }
 
 /// What a clause says.
 #[derive(Drop)]
 pub enum ClauseKind {
     Simdlen(Expr),
-    Uniform(Vec<NameId>),
-    Aligned(Vec<NameId>, Option<Expr>),
-    Linear(Vec<NameId>, Option<Modifier>, Option<Expr>),
+    Uniform(Vec<PlacedName>),
+    Aligned(Vec<PlacedName>, Option<Expr>),
+    Linear(Vec<PlacedName>, Option<Modifier>, Option<Expr>),
     /// `inbranch`
     Inside,
     /// `notinbranch`

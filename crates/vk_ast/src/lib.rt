@@ -11,7 +11,7 @@ pub mod names;
 pub mod nodes;
 pub mod statements;
 
-pub use directives::{Clause, ClauseKind, Directive, Modifier};
+pub use directives::{Clause, ClauseKind, Directive, Modifier, PlacedName};
 pub use expressions::{BinOp, Expr, ExprKind, UnOp};
 pub use items::{Function, Item, Object, ParamDecl, Unit};
 pub use names::{NameId, NameTable};

@@ -6,6 +6,7 @@ use Rattle.std.proofs.lemmas.Bool.{cases_lt}
 use Rattle.std.proofs.lemmas.List.{take_all, take-append-drop}
 use Rattle.std.proofs.lemmas.List.Sums.{prefix_len_stops}
 use Rattle.vk_ast.specs.declared.names.NameId.{NameId}
+use Rattle.vk_ast.specs.declared.directives.PlacedName.{PlacedName}
 use Rattle.vk_tokens.specs.declared.tokens.Mark.TheVariants as mark
 use Rattle.vk_grammar_expr.specs.declared.symbols.Sym.{Sym}
 use Rattle.vk_grammar_expr.specs.declared.symbols.SymKind.TheVariants as kind
@@ -46,11 +47,11 @@ none_push {x} t n e = record {
   before = λ rest. ap (position_or_len is_colon) (append_assoc x (t ∷ []) rest) ∙ n.before (t ∷ rest) ∙ rw e (omega (arith, length-append x (t ∷ [])));
 }
 
-pub none_ids : {ids : List NameId} {x : List Sym} → AreIds ids x → HasNone x
+pub none_ids : {ids : List PlacedName} {x : List Sym} → AreIds ids x → HasNone x
 none_ids (one_id i) = none_cons (name_no_colon i) none_nil
 none_ids (more_ids i c later) = none_cons (name_no_colon i) (none_cons (comma_no_colon c) (none_ids later))
 
-pub none_group : {ids : List NameId} {x w : List Sym} → Wraps x w → AreIds ids x → HasNone w
+pub none_group : {ids : List PlacedName} {x w : List Sym} → Wraps x w → AreIds ids x → HasNone w
 none_group (in_parens o c) ids = none_cons (open_no_colon o) (none_push _ (none_ids ids) (close_no_colon c))
 
 module _ {x : List Sym} (n : HasNone x) where

@@ -3,6 +3,7 @@ use Rattle.std.proofs.Common.{◌≡◌, suc, ◌-◌, Bool, true, false, ◌&&�
 use Rattle.std.proofs.lemmas.Bool.{false≢true}
 use Rattle.std.proofs.Math.Seq.{take-append_seam}
 use Rattle.vk_ast.specs.declared.names.NameId.{NameId}
+use Rattle.vk_ast.specs.declared.directives.PlacedName.{PlacedName}
 use Rattle.vk_tokens.specs.declared.tokens.Mark.TheVariants as mark
 use Rattle.vk_grammar_expr.specs.declared.symbols.Sym.{Sym}
 use Rattle.vk_grammar_expr.specs.declared.symbols.SymKind.{SymKind}
@@ -10,8 +11,8 @@ use Rattle.vk_grammar_expr.specs.declared.symbols.SymKind.TheVariants as kind
 use Rattle.vk_grammar_expr.specs.Symbols.{Is, IsSign}
 use Rattle.vk_grammar_expr.proofs.Signs.{sign_kind, sign_is}
 use Rattle.vk_parse_directives.specs.Cuts.{is_open, is_close, is_comma}
-use Rattle.vk_parse_directives.specs.Clauses.{Wraps, in_parens, AreIds, one_id, more_ids}
-use Rattle.vk_parse_directives.specs.Inner.Reading.{◌>>=◌, name_in, ids_step, ids_in, without_last, last_closes, inside}
+use Rattle.vk_parse_directives.specs.Clauses.{Wraps, in_parens, placed, AreIds, one_id, more_ids}
+use Rattle.vk_parse_directives.specs.Inner.Reading.{◌>>=◌, named_by, name_in, ids_step, ids_in, without_last, last_closes, inside}
 
 pub some_is : {A : Type 0} {a b : A} → Some a ≡ Some b → a ≡ b
 some_is e = cc
@@ -33,21 +34,27 @@ chose false o e = absurd (cc)
 
 -- ---- names
 
-name_is : (k : SymKind) {id : NameId} → name_in k ≡ Some id → k ≡ kind.Name id
-name_is (kind.Name id) e = ap (λ i. kind.Name i) (some_is e)
-name_is (kind.Int ty n) e = absurd (cc)
-name_is (kind.Sign m) e = absurd (cc)
-name_is (kind.Keyword k) e = absurd (cc)
-name_is (kind.TypeWord w) e = absurd (cc)
-name_is kind.LeftOut e = absurd (cc)
-name_is (kind.Simd n) e = absurd (cc)
-name_is (kind.Simdfn n) e = absurd (cc)
+-- the token is an identifier, and this is its name
+pub record IsName (t : Sym) (n : PlacedName) : Type 0 where
+  pub id : NameId
+  pub name : Is (kind.Name id) t
+  pub stands : placed t id ≡ n
 
-pub a_name : {t : Sym} {id : NameId} → name_in t.kind ≡ Some id → Is (kind.Name id) t
-a_name {t = t} e = record { is = name_is t.kind e }
+name_by : (t : Sym) (k : SymKind) {n : PlacedName} → t.kind ≡ k → named_by t k ≡ Some n → IsName t n
+name_by t (kind.Name id) is e = record { id = id; name = record { is = is }; stands = some_is e }
+name_by t (kind.Int ty n) is e = absurd (cc)
+name_by t (kind.Sign m) is e = absurd (cc)
+name_by t (kind.Keyword k) is e = absurd (cc)
+name_by t (kind.TypeWord w) is e = absurd (cc)
+name_by t kind.LeftOut is e = absurd (cc)
+name_by t (kind.Simd n) is e = absurd (cc)
+name_by t (kind.Simdfn n) is e = absurd (cc)
 
-pub name_of : {t : Sym} {id : NameId} → Is (kind.Name id) t → name_in t.kind ≡ Some id
-name_of i = ap name_in i.is
+pub a_name : {t : Sym} {n : PlacedName} → name_in t ≡ Some n → IsName t n
+a_name {t = t} e = name_by t t.kind refl e
+
+pub name_of : {t : Sym} {id : NameId} → Is (kind.Name id) t → name_in t ≡ Some (placed t id)
+name_of {t = t} i = ap (named_by t) i.is
 
 pub comma_of : {t : Sym} → is_comma t ≡ true → IsSign mark.Comma t
 comma_of {t = t} e = record { is = sign_kind mark.Comma t.kind e }
@@ -58,18 +65,20 @@ open_of {t = t} e = record { is = sign_kind mark.OpenParen t.kind e }
 pub close_of : {t : Sym} → is_close t ≡ true → IsSign mark.CloseParen t
 close_of {t = t} e = record { is = sign_kind mark.CloseParen t.kind e }
 
-pub ids_found : (x : List Sym) {ids : List NameId} → ids_in x ≡ Some ids → AreIds ids x
+pub ids_found : (x : List Sym) {ids : List PlacedName} → ids_in x ≡ Some ids → AreIds ids x
 ids_found [] e = absurd (cc)
 ids_found (t ∷ []) e =
-    let g = gave (name_in t.kind) (λ id. (Some []) >>= (λ later. Some (id ∷ later))) e in
-    subst (λ (l : List NameId). AreIds l (t ∷ [])) (some_is g.then_is) (one_id (a_name g.is))
+    let g = gave (name_in t) (λ id. (Some []) >>= (λ later. Some (id ∷ later))) e in
+    let n = a_name g.is in
+    subst (λ (l : List PlacedName). AreIds l (t ∷ [])) (ap (λ (n : PlacedName). n ∷ []) n.stands ∙ some_is g.then_is) (one_id n.name)
 ids_found (t ∷ u ∷ rest) e =
-    let c = chose (is_comma u) (ids_step (ids_in rest) (name_in t.kind)) e in
-    let g = gave (name_in t.kind) (λ id. ids_in rest >>= (λ later. Some (id ∷ later))) c.1 in
+    let c = chose (is_comma u) (ids_step (ids_in rest) (name_in t)) e in
+    let g = gave (name_in t) (λ id. ids_in rest >>= (λ later. Some (id ∷ later))) c.1 in
     let h = gave (ids_in rest) (λ later. Some (g.value ∷ later)) g.then_is in
-    subst (λ (l : List NameId). AreIds l (t ∷ u ∷ rest)) (some_is h.then_is) (more_ids (a_name g.is) (comma_of c.0) (ids_found rest h.is))
+    let n = a_name g.is in
+    subst (λ (l : List PlacedName). AreIds l (t ∷ u ∷ rest)) (ap (λ (n : PlacedName). n ∷ h.value) n.stands ∙ some_is h.then_is) (more_ids n.name (comma_of c.0) (ids_found rest h.is))
 
-pub ids_only : {ids : List NameId} {x : List Sym} → AreIds ids x → ids_in x ≡ Some ids
+pub ids_only : {ids : List PlacedName} {x : List Sym} → AreIds ids x → ids_in x ≡ Some ids
 ids_only (one_id i) = rw (name_of i) refl
 ids_only (more_ids i c later) = rw (sign_is c, name_of i, ids_only later) refl
 

@@ -1,7 +1,7 @@
 -- What the reader of clauses tells, against the relation.
-use Rattle.std.proofs.Common.{◌≡◌, ℕ, zero, suc, ◌+◌, ◌≤◌, Bool, true, false, ◌&&◌, cond, List, [], ◌∷◌, ◌++◌, length, take, drop, unwrap_or, Option, Some, None, refl, sym, ap, ◌∙◌, subst, inl, inr, length-drop, arith}
+use Rattle.std.proofs.Common.{◌≡◌, ℕ, zero, suc, ◌+◌, ◌≤◌, Bool, true, false, ◌&&◌, cond, List, [], ◌∷◌, ◌++◌, length, take, drop, Option, Some, None, refl, sym, ap, ◌∙◌, subst, inl, inr, length-drop, arith}
 use Rattle.std.proofs.lemmas.Bool.{cases_Bool, false≢true}
-use Rattle.vk_ast.specs.declared.names.NameId.{NameId}
+use Rattle.vk_ast.specs.declared.directives.PlacedName.{PlacedName}
 use Rattle.vk_ast.specs.Tree.{Tree}
 use Rattle.vk_ast.specs.Directives.{Says, ClauseTree}
 use Rattle.vk_tokens.specs.declared.tokens.Mark.TheVariants as mark
@@ -13,7 +13,7 @@ use Rattle.vk_parse_directives.specs.declared.words.Word.TheVariants as word
 use Rattle.vk_parse_directives.specs.Words.{word_at}
 use Rattle.vk_parse_directives.specs.Cuts.{is_any_word, is_comma, group_len, piece_len, begins_clause, skips_comma, before_colon, behind_colon}
 use Rattle.vk_parse_directives.specs.Clauses.{Wraps, AreIds, IsForm, a_simdlen, a_uniform, an_aligned, an_aligned_to, a_linear, an_inbranch, a_notinbranch, HasForm, known, IsClause, of_a_form, of_no_form, AreClauses, no_clauses, behind_comma, a_clause}
-use Rattle.vk_parse_directives.specs.Inner.Reading.{◌>>=◌, cond_in, ids_in, optional_in, inside, aligned_in, linear_in, form_in, known_in, says_in, clauses_in, clauses_of}
+use Rattle.vk_parse_directives.specs.Inner.Reading.{◌>>=◌, cond_in, ids_in, optional_in, inside, aligned_in, linear_in, form_in, known_in, told_as, clause_in, clauses_in, clauses_of}
 use Rattle.vk_parse_directives.proofs.Conds.{cond_only, cond_of}
 use Rattle.vk_parse_directives.proofs.Forms.{some_is, gave, comma_of, ids_found, ids_only, inside_of, wraps}
 use Rattle.vk_parse_directives.proofs.Colons.{none_ids, before_plain, behind_plain, before_u, behind_u, cut, uncut}
@@ -22,7 +22,7 @@ use Rattle.vk_parse_directives.proofs.Linears.{linear_found, linear_only}
 module _ (names : List (List ℕ)) where
   -- ---- forms
 
-  aligned_by : {x w : List Sym} {ids : List NameId} {o : Option Tree} (b : Option (List Sym)) → behind_colon x ≡ b → Wraps x w → AreIds ids (before_colon x) → optional_in b ≡ Some o
+  aligned_by : {x w : List Sym} {ids : List PlacedName} {o : Option Tree} (b : Option (List Sym)) → behind_colon x ≡ b → Wraps x w → AreIds ids (before_colon x) → optional_in b ≡ Some o
       → IsForm names word.Aligned (Says.aligned ids o) w
   aligned_by {x} {w} {ids} None is wr all e =
       subst (λ (o : Option Tree). IsForm names word.Aligned (Says.aligned ids o) w) (some_is e) (an_aligned wr (subst (AreIds ids) (uncut x is) all))
@@ -63,7 +63,7 @@ module _ (names : List (List ℕ)) where
   within : {A : Type 0} {x w : List Sym} (f : List Sym → Option A) → Wraps x w → (inside w >>= f) ≡ f x
   within f wr = ap (λ o. o >>= f) (inside_of wr)
 
-  aligned_only : {ids : List NameId} {o : Option Tree} (x y : List Sym) (b : Option (List Sym)) → before_colon x ≡ y → behind_colon x ≡ b → AreIds ids y → optional_in b ≡ Some o
+  aligned_only : {ids : List PlacedName} {o : Option Tree} (x y : List Sym) (b : Option (List Sym)) → before_colon x ≡ y → behind_colon x ≡ b → AreIds ids y → optional_in b ≡ Some o
       → aligned_in x ≡ Some (Says.aligned ids o)
   unfolding aligned_in
   aligned_only x y b before behind all is = rw (before, behind, ids_only all, is) refl
@@ -97,22 +97,22 @@ module _ (names : List (List ℕ)) where
   known_only : {s : Says} {x : List Sym} → HasForm names s x → known_in names x ≡ Some s
   known_only (known {w = w} is f) = ap (λ o. form_in names o w) is ∙ form_only f
 
-  says_by : (x : List Sym) (o : Option Says) → known_in names x ≡ o → IsClause names (unwrap_or o Says.other) x
-  says_by x (Some s) is = of_a_form (known_found x is)
-  says_by x None is = of_no_form (λ s f. let e = sym is ∙ known_only f in absurd (cc))
+  clause_by : (x : List Sym) (o : Option Says) → known_in names x ≡ o → IsClause names (told_as names x o) x
+  clause_by x (Some s) is = of_a_form (known_found x is)
+  clause_by x None is = of_no_form (λ s f. let e = sym is ∙ known_only f in absurd (cc))
 
-  pub says_found : (x : List Sym) → IsClause names (says_in names x) x
-  unfolding says_in
-  says_found x = says_by x (known_in names x) refl
+  clause_found : (x : List Sym) → IsClause names (clause_in names x) x
+  unfolding clause_in
+  clause_found x = clause_by x (known_in names x) refl
 
-  other_by : (x : List Sym) (o : Option Says) → known_in names x ≡ o → ((s : Says) → HasForm names s x → ⊥) → Says.other ≡ unwrap_or o Says.other
+  other_by : (x : List Sym) (o : Option Says) → known_in names x ≡ o → ((s : Says) → HasForm names s x → ⊥) → told_as names x None ≡ told_as names x o
   other_by x (Some s) is none = absurd (none s (known_found x is))
   other_by x None is none = refl
 
-  pub says_only : {s : Says} {x : List Sym} → IsClause names s x → s ≡ says_in names x
-  unfolding says_in
-  says_only (of_a_form f) = sym (ap (λ o. unwrap_or o Says.other) (known_only f))
-  says_only {x = x} (of_no_form none) = other_by x (known_in names x) refl none
+  clause_only : {c : ClauseTree} {x : List Sym} → IsClause names c x → c ≡ clause_in names x
+  unfolding clause_in
+  clause_only {x = x} (of_a_form f) = sym (ap (told_as names x) (known_only f))
+  clause_only {x = x} (of_no_form none) = other_by x (known_in names x) refl none
 
   -- ---- lists of clauses
 
@@ -135,7 +135,7 @@ module _ (names : List (List ℕ)) where
       let k = piece_len w in
       elim (cases_Bool (skips_comma w)) [
         | inl skips ↦ let both = skip_is t rest skips in rw skips (behind_comma both.0 both.1 (clauses_found n rest (omega arith)))
-        | inr goes ↦ rw goes (a_clause goes (says_found (take k w)) (clauses_found n (drop k w) (let one = piece_some t rest in omega (arith, one, length-drop k w))))
+        | inr goes ↦ rw goes (a_clause goes (clause_found (take k w)) (clauses_found n (drop k w) (let one = piece_some t rest in omega (arith, one, length-drop k w))))
       ]
 
   pub all_found : (w : List Sym) → AreClauses names (clauses_of names w) w
@@ -148,12 +148,11 @@ module _ (names : List (List ℕ)) where
   clauses_only (behind_comma i b all) zero room = absurd (omega arith)
   clauses_only (behind_comma {cs = cs} i b all) (suc n) room = rw (sign_is i, b) (clauses_only {cs = cs} all n (omega arith))
   clauses_only (a_clause goes c all) zero room = absurd (omega arith)
-  clauses_only (a_clause {s = s} {cs = cs} {t = t} {rest = rest} goes c all) (suc n) room =
+  clauses_only (a_clause {cs = cs} {t = t} {rest = rest} goes c all) (suc n) room =
       let w = t ∷ rest in
       let k = piece_len w in
       let later = clauses_only {cs = cs} all n (let one = piece_some t rest in omega (arith, one, length-drop k w)) in
-      rw goes (ap (λ (x : Says). let y : ClauseTree = record { token = t.at; says = x } in y ∷ cs) (says_only c)
-      ∙ ap (λ (l : List ClauseTree). record { token = t.at; says = says_in names (take k w) } ∷ l) later)
+      rw goes (ap (λ (y : ClauseTree). y ∷ cs) (clause_only c) ∙ ap (λ (l : List ClauseTree). clause_in names (take k w) ∷ l) later)
 
   pub all_only : {cs : List ClauseTree} {w : List Sym} → AreClauses names cs w → cs ≡ clauses_of names w
   unfolding clauses_of

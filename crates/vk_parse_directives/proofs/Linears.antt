@@ -3,6 +3,7 @@ use Rattle.std.proofs.Common.{◌≡◌, ℕ, zero, suc, ◌+◌, ◌<◌, Bool,
 use Rattle.std.proofs.Math.Seq.{take-append_seam, drop-append_seam}
 use Rattle.std.proofs.lemmas.List.{take_all, take-append-drop}
 use Rattle.vk_ast.specs.declared.names.NameId.{NameId}
+use Rattle.vk_ast.specs.declared.directives.PlacedName.{PlacedName}
 use Rattle.vk_ast.specs.Tree.{Tree}
 use Rattle.vk_ast.specs.Directives.{Says}
 use Rattle.vk_tokens.specs.declared.tokens.Mark.TheVariants as mark
@@ -75,8 +76,8 @@ module _ (names : List (List ℕ)) where
   part_found : (x : List Sym) {p : Part} → part_in names x ≡ Some p → IsPart names p x
   part_found [] e = absurd (cc)
   part_found (t ∷ []) e =
-      let g = gave (name_in t.kind) (λ _. Some (worded (modifier_of (word_at names t.kind)))) e in
-      subst (λ (p : Part). IsPart names p (t ∷ [])) (some_is g.then_is) (a_word (a_name g.is))
+      let g = gave (name_in t) (λ _. Some (worded (modifier_of (word_at names t.kind)))) e in
+      subst (λ (p : Part). IsPart names p (t ∷ [])) (some_is g.then_is) (a_word (a_name g.is).name)
   part_found (t ∷ u ∷ rest) e =
       let s = step_found (word_at names t.kind) (u ∷ rest) e in
       subst (λ (p : Part). IsPart names p (t ∷ u ∷ rest)) s.part_is (a_step s.word_is s.in_group s.is_cond)
@@ -136,7 +137,7 @@ module _ (names : List (List ℕ)) where
 
   -- ---- `linear`
 
-  behind_found : {x : List Sym} {ids : List NameId} {s : Says} (o : Option (List Sym)) → behind_colon x ≡ o → AreIds ids (before_colon x) → behind_ids names ids o ≡ Some s → IsLinear names s x
+  behind_found : {x : List Sym} {ids : List PlacedName} {s : Says} (o : Option (List Sym)) → behind_colon x ≡ o → AreIds ids (before_colon x) → behind_ids names ids o ≡ Some s → IsLinear names s x
   unfolding behind_ids
   behind_found {x} {ids} None is all e =
       subst (λ (s : Says). IsLinear names s x) (some_is e) (subst (IsLinear names (Says.linear ids None None)) (uncut x is) (plain all))
@@ -157,7 +158,7 @@ module _ (names : List (List ℕ)) where
       let g = gave (ids_in (before_colon x)) (λ ids. behind_ids names ids (behind_colon x)) e in
       behind_found (behind_colon x) refl (ids_found (before_colon x) g.is) g.then_is
 
-  group_found : (t : Sym) (w : List Sym) {id : NameId} {x : List Sym} {ids : List NameId} {st : Option Tree} {s : Says} (o : Option (List Sym)) → behind_colon w ≡ o → Is (kind.Name id) t
+  group_found : (t : Sym) (w : List Sym) {id : NameId} {x : List Sym} {ids : List PlacedName} {st : Option Tree} {s : Says} (o : Option (List Sym)) → behind_colon w ≡ o → Is (kind.Name id) t
       → Wraps x (before_colon w) → AreIds ids x → behind_group names o ≡ Some st → Says.linear ids (Some (modifier_of (word_at names t.kind))) st ≡ s → IsLinear names s (t ∷ w)
   unfolding behind_group
   group_found t w {x = x} {ids = ids} None is i wr all e same =
@@ -176,11 +177,11 @@ module _ (names : List (List ℕ)) where
   unfolding modified_linear
   modified_found t w {s} e =
       let m = modifier_of (word_at names t.kind) in
-      let g = gave (name_in t.kind) (λ _. inside (before_colon w) >>= (λ x. ids_in x >>= (λ ids. behind_group names (behind_colon w) >>= (λ st. Some (Says.linear ids (Some m) st))))) e in
+      let g = gave (name_in t) (λ _. inside (before_colon w) >>= (λ x. ids_in x >>= (λ ids. behind_group names (behind_colon w) >>= (λ st. Some (Says.linear ids (Some m) st))))) e in
       let h = gave (inside (before_colon w)) (λ x. ids_in x >>= (λ ids. behind_group names (behind_colon w) >>= (λ st. Some (Says.linear ids (Some m) st)))) g.then_is in
       let i = gave (ids_in h.value) (λ ids. behind_group names (behind_colon w) >>= (λ st. Some (Says.linear ids (Some m) st))) h.then_is in
       let j = gave (behind_group names (behind_colon w)) (λ st. Some (Says.linear i.value (Some m) st)) i.then_is in
-      group_found t w (behind_colon w) refl (a_name g.is) (wraps (before_colon w) h.is) (ids_found h.value i.is) j.is (some_is j.then_is)
+      group_found t w (behind_colon w) refl (a_name g.is).name (wraps (before_colon w) h.is) (ids_found h.value i.is) j.is (some_is j.then_is)
 
   pub linear_found : (x : List Sym) {s : Says} → linear_in names x ≡ Some s → IsLinear names s x
   unfolding linear_in
@@ -190,16 +191,16 @@ module _ (names : List (List ℕ)) where
     | inr h ↦ ids_linear_found (t ∷ rest) h.1
   ]
 
-  no_group : {ids : List NameId} {x : List Sym} → AreIds ids x → (rest : List Sym) → is_sign mark.OpenParen (head rest) ≡ false → linear_in names (x ++ rest) ≡ ids_linear names (x ++ rest)
+  no_group : {ids : List PlacedName} {x : List Sym} → AreIds ids x → (rest : List Sym) → is_sign mark.OpenParen (head rest) ≡ false → linear_in names (x ++ rest) ≡ ids_linear names (x ++ rest)
   unfolding linear_in
   no_group (one_id i) rest none = rw none refl
   no_group (more_ids i c later) rest none = rw (comma_not_open c) refl
 
-  ids_then : {ids : List NameId} (w x : List Sym) (o : Option (List Sym)) → before_colon w ≡ x → behind_colon w ≡ o → AreIds ids x → ids_linear names w ≡ behind_ids names ids o
+  ids_then : {ids : List PlacedName} (w x : List Sym) (o : Option (List Sym)) → before_colon w ≡ x → behind_colon w ≡ o → AreIds ids x → ids_linear names w ≡ behind_ids names ids o
   unfolding ids_linear
   ids_then w x o before behind all = rw (before, behind, ids_only all) refl
 
-  group_then : {id : NameId} {t : Sym} {ids : List NameId} {x : List Sym} (w v : List Sym) (o : Option (List Sym)) → Is (kind.Name id) t → before_colon w ≡ v → behind_colon w ≡ o → Wraps x v → AreIds ids x
+  group_then : {id : NameId} {t : Sym} {ids : List PlacedName} {x : List Sym} (w v : List Sym) (o : Option (List Sym)) → Is (kind.Name id) t → before_colon w ≡ v → behind_colon w ≡ o → Wraps x v → AreIds ids x
       → modified_linear names t w ≡ (behind_group names o >>= (λ st. Some (Says.linear ids (Some (modifier_of (word_at names t.kind))) st)))
   unfolding modified_linear
   group_then {t = t} {ids = ids} {x = x} w v o i before behind wr all =

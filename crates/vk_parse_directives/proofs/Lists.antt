@@ -2,7 +2,7 @@
 use Rattle.std.proofs.Common.{◌≡◌, ℕ, ◌-◌, ◌≤◌, true, List, [], ◌∷◌, ◌++◌, length, take, drop, get_or, slice_get, unwrap_or, Option, Some, None, refl, sym, ap, ◌∙◌, append_assoc, arith}
 use Rattle.std.proofs.lemmas.List.{take_all}
 use Rattle.std.proofs.lemmas.Option.{slice_get_past}
-use Rattle.vk_ast.specs.declared.names.NameId.{NameId}
+use Rattle.vk_ast.specs.declared.directives.PlacedName.{PlacedName}
 use Rattle.vk_grammar_expr.specs.declared.symbols.Sym.{Sym}
 use Rattle.vk_parse_directives.specs.Words.{word_of}
 use Rattle.vk_parse_directives.specs.Cuts.{is_comma}
@@ -22,7 +22,7 @@ pub all_of : {A : Type 0} (front : List A) (a : A) (o : Option (List A))
 all_of front a None = refl
 all_of front a (Some later) = ap (λ l. Some l) (append_assoc front (a ∷ []) later)
 
-pub ids_next : (w : List Sym) (front : List NameId) (d e : Sym) (id : NameId) → 2 ≤ length w → is_comma (get_or w 1 d) ≡ true → name_in (get_or w 0 e).kind ≡ Some id
+pub ids_next : (w : List Sym) (front : List PlacedName) (d e : Sym) (id : PlacedName) → 2 ≤ length w → is_comma (get_or w 1 d) ≡ true → name_in (get_or w 0 e) ≡ Some id
     → (ids_in (take (length w - 2) (drop 2 w)) >>= (λ later. Some ((front ++ id ∷ []) ++ later))) ≡ (ids_in w >>= (λ later. Some (front ++ later)))
 ids_next [] front d e id two comma name = absurd (omega arith)
 ids_next (t ∷ []) front d e id two comma name = absurd (omega arith)

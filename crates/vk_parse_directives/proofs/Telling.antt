@@ -1,10 +1,10 @@
 -- The loop over the clauses of a line.
-use Rattle.std.proofs.Common.{◌≡◌, ℕ, zero, suc, ◌-◌, ◌<◌, ◌≤◌, true, false, List, [], ◌∷◌, ◌++◌, length, take, drop, get_or, refl, sym, ap, ◌∙◌, subst, append-nil, append_assoc, length-drop, arith}
+use Rattle.std.proofs.Common.{◌≡◌, ℕ, zero, suc, ◌-◌, ◌<◌, ◌≤◌, true, false, List, [], ◌∷◌, ◌++◌, length, take, drop, refl, sym, ap, ◌∙◌, subst, append-nil, append_assoc, length-drop, arith}
 use Rattle.std.proofs.lemmas.List.{take_all}
-use Rattle.vk_ast.specs.Directives.{Says, ClauseTree}
+use Rattle.vk_ast.specs.Directives.{ClauseTree}
 use Rattle.vk_grammar_expr.specs.declared.symbols.Sym.{Sym}
 use Rattle.vk_parse_directives.specs.Cuts.{piece_len, skips_comma}
-use Rattle.vk_parse_directives.specs.Inner.Reading.{says_in, clauses_in, clauses_of}
+use Rattle.vk_parse_directives.specs.Inner.Reading.{clause_in, clauses_in, clauses_of}
 
 -- What was told and what is left are together the clauses of `w`.
 pub record Telling (names : List (List ℕ)) (w rest : List Sym) (told : List ClauseTree) : Type 0 where
@@ -38,25 +38,23 @@ skip names w rest told l some skips =
     let go = skipped names l.turns rest l.room some skips in
     record { turns = go.0; room = go.1; goes = ap (λ cs. told ++ cs) (sym go.2) ∙ l.goes }
 
-pieced : (names : List (List ℕ)) (turns : ℕ) (rest : List Sym) (d : Sym) → length rest ≤ turns → 1 ≤ length rest → skips_comma rest ≡ false → 1 ≤ piece_len rest
-    → (m : ℕ) × (length (drop (piece_len rest) rest) ≤ m)
-    × (clauses_in names turns rest ≡ (record { token = (get_or rest 0 d).at; says = says_in names (take (piece_len rest) rest) } ∷ clauses_in names m (drop (piece_len rest) rest)))
-pieced names zero rest d room some skips one = absurd (omega arith)
-pieced names (suc m) [] d room some skips one = absurd (omega arith)
-pieced names (suc m) (t ∷ rest) d room some skips one = (m, omega (arith, length-drop (piece_len (t ∷ rest)) (t ∷ rest)), rw skips refl)
+pieced : (names : List (List ℕ)) (turns : ℕ) (rest : List Sym) → length rest ≤ turns → 1 ≤ length rest → skips_comma rest ≡ false → 1 ≤ piece_len rest
+    → (m : ℕ) × (length (drop (piece_len rest) rest) ≤ m) × (clauses_in names turns rest ≡ (clause_in names (take (piece_len rest) rest) ∷ clauses_in names m (drop (piece_len rest) rest)))
+pieced names zero rest room some skips one = absurd (omega arith)
+pieced names (suc m) [] room some skips one = absurd (omega arith)
+pieced names (suc m) (t ∷ rest) room some skips one = (m, omega (arith, length-drop (piece_len (t ∷ rest)) (t ∷ rest)), rw skips refl)
 
-pub clause : (names : List (List ℕ)) (w rest text behind : List Sym) (n : ℕ) (d : Sym) (told : List ClauseTree) (s : Says) → Telling names w rest told → 1 ≤ length rest → skips_comma rest ≡ false
-    → text ≡ take n rest → behind ≡ drop n rest → n ≡ piece_len rest → 1 ≤ n → s ≡ says_in names text
-    → Telling names w behind (told ++ record { token = (get_or rest 0 d).at; says = s } ∷ [])
-clause names w rest text behind n d told s l some skips front back count one is =
-    let c : ClauseTree = record { token = (get_or rest 0 d).at; says = s } in
-    let go = pieced names l.turns rest d l.room some skips (omega arith) in
+pub clause : (names : List (List ℕ)) (w rest text behind : List Sym) (n : ℕ) (told : List ClauseTree) (c : ClauseTree) → Telling names w rest told → 1 ≤ length rest → skips_comma rest ≡ false
+    → text ≡ take n rest → behind ≡ drop n rest → n ≡ piece_len rest → 1 ≤ n → c ≡ clause_in names text
+    → Telling names w behind (told ++ c ∷ [])
+clause names w rest text behind n told c l some skips front back count one is =
+    let go = pieced names l.turns rest l.room some skips (omega arith) in
     let text_is : take (piece_len rest) rest ≡ text = ap (λ k. take k rest) (sym count) ∙ sym front in
     let behind_is : drop (piece_len rest) rest ≡ behind = ap (λ k. drop k rest) (sym count) ∙ sym back in
     record {
       turns = go.0;
       room = subst (λ (b : List Sym). length b ≤ go.0) behind_is go.1;
       goes = append_assoc told (c ∷ []) (clauses_in names go.0 behind)
-          ∙ ap (λ cs. told ++ cs) (sym (go.2 ∙ rw (text_is, behind_is) (ap (λ (x : Says). let y : ClauseTree = record { token = (get_or rest 0 d).at; says = x } in y ∷ clauses_in names go.0 behind) (sym is))))
+          ∙ ap (λ cs. told ++ cs) (sym (go.2 ∙ rw (text_is, behind_is) (ap (λ (x : ClauseTree). x ∷ clauses_in names go.0 behind) (sym is))))
           ∙ l.goes;
     }

@@ -3,8 +3,8 @@
 ghost use Rattle.std.specs.Prelude.{◌≡◌, List, [], ◌∷◌, ◌++◌, IfOk};
 ghost use Rattle.std.specs.Option.{option_map};
 ghost use Rattle.vk_ast.specs.Tree.{expr_of};
-ghost use Rattle.vk_ast.specs.Directives.{says_of};
-ghost use Rattle.vk_parse_directives.specs.Clauses.{Part as PartOf, modifier_of};
+ghost use Rattle.vk_ast.specs.Directives.{says_of, clause_of};
+ghost use Rattle.vk_parse_directives.specs.Clauses.{Part as PartOf, modifier_of, names_in};
 ghost use Rattle.vk_parse_directives.specs.Inner.Reading as spec;
 ghost use Rattle.vk_parse_directives.specs.Inner.Answers.{Gives};
 ghost use Rattle.vk_parse_directives.specs.Inner.Parts.{part_of, next_word, word_after, step_after, IsSum, Sums};
@@ -13,18 +13,29 @@ use crate::cuts::{at_colon, has_modifiers, inside, is_comma, piece_len};
 use crate::miss::Miss;
 use crate::words::{Word, word_at};
 use std::alloc::Global;
-use vk_ast::{ClauseKind, Expr, Modifier, NameId, NameTable};
-use vk_memory::Memory;
-use vk_parse_expr::signs::{is_sign, kind_at};
-use vk_parse_expr::{High, ReadFail, read_expr};
+use vk_ast::{Clause, ClauseKind, Expr, Modifier, NameTable, PlacedName};
 use vk_grammar_expr::{Sym, SymKind};
+use vk_memory::Memory;
+use vk_parse_expr::signs::{is_sign, kind_at, start_at};
+use vk_parse_expr::{High, ReadFail, read_expr};
+use vk_parse_words::first_word_fault;
 use vk_tokens::Mark;
 
-// A whole expression of at most 64 levels.
-#[tactic(auto, unfolding(crate::specs::Reading::cond_in))]
+// Whether words of types among the tokens are no type.
+fn has_fault(syms: &[Sym]) -> bool
+    ensures { result ≡ spec.has_fault syms.now }
+{
+    first_word_fault(syms).is_some()
+}
+
+// A whole expression of at most 64 levels, in which no words are no type.
+#[tactic(auto, unfolding(crate::specs::Inner::Reading::cond_in))]
 fn cond(alloc: Global, syms: &[Sym]) -> Result<Expr, Miss>
     ensures { Gives expr_of result (spec.cond_in syms.now) }
 {
+    if has_fault(syms) {
+        return Err(Miss::NoForm);
+    }
     match read_expr(alloc, syms) {
         Ok(High { expr, height: _ }) => Ok(expr),
         Err(ReadFail::Memory) => Err(Miss::Memory),
@@ -43,18 +54,39 @@ fn optional(alloc: Global, syms: Option<&[Sym]>) -> Result<Option<Expr>, Miss>
     }
 }
 
-// The name that a token is.
-fn name(kind: SymKind) -> Result<NameId, Miss>
-    ensures { Gives (λ id. id) result (spec.name_in kind) }
+// The name that a token is, where it stands.
+fn name(sym: Sym) -> Result<PlacedName, Miss>
+    ensures { Gives (λ n. n) result (spec.name_in sym) }
 {
-    match kind {
-        SymKind::Name(id) => Ok(id),
+    match sym.kind {
+        SymKind::Name(name) => Ok(PlacedName {
+            line: sym.line,
+            token: sym.at,
+            name,
+        }),
         _ => Err(Miss::NoForm),
     }
 }
 
+// The identifiers among tokens.
+fn names_in(alloc: Global, syms: &[Sym]) -> Result<Vec<PlacedName>, Memory>
+    ensures { IfOk result (λ v. v.items ≡ names_in syms.now) }
+{
+    let mut list = Vec::new(alloc);
+    for sym in syms {
+        if let SymKind::Name(name) = sym.kind {
+            list.push(PlacedName {
+                line: sym.line,
+                token: sym.at,
+                name,
+            })?;
+        }
+    }
+    Ok(list)
+}
+
 // Names with commas between them.
-fn ids(alloc: Global, syms: &[Sym]) -> Result<Vec<NameId>, Miss>
+fn ids(alloc: Global, syms: &[Sym]) -> Result<Vec<PlacedName>, Miss>
     ensures { Gives (λ v. v.items) result (spec.ids_in syms.now) }
 {
     let mut list = Vec::new(alloc);
@@ -63,8 +95,8 @@ fn ids(alloc: Global, syms: &[Sym]) -> Result<Vec<NameId>, Miss>
         if !is_comma(*comma) {
             return Err(Miss::NoForm);
         }
-        match name(first.kind) {
-            Ok(id) => list.push(id)?,
+        match name(*first) {
+            Ok(item) => list.push(item)?,
             Err(miss) => return Err(miss),
         }
         rest = behind;
@@ -72,7 +104,7 @@ fn ids(alloc: Global, syms: &[Sym]) -> Result<Vec<NameId>, Miss>
     let [last] = rest else {
         return Err(Miss::NoForm);
     };
-    list.push(name(last.kind)?)?;
+    list.push(name(*last)?)?;
     Ok(list)
 }
 
@@ -99,7 +131,7 @@ fn alone(kind: ClauseKind, syms: &[Sym]) -> Result<ClauseKind, Miss>
 }
 
 // What stands in the parentheses of `aligned`.
-#[tactic(auto, unfolding(crate::specs::Reading::aligned_in))]
+#[tactic(auto, unfolding(crate::specs::Inner::Reading::aligned_in))]
 fn aligned(alloc: Global, syms: &[Sym]) -> Result<ClauseKind, Miss>
     ensures { Gives says_of result (spec.aligned_in syms.now) }
 {
@@ -177,7 +209,7 @@ fn read_part(alloc: Global, names: &NameTable, syms: &[Sym]) -> Result<Part, Mis
     match syms {
         [] => Err(Miss::NoForm),
         [only] => {
-            let _name = name(only.kind)?;
+            let _name = name(*only)?;
             Ok(Part::Worded(modifier_of(word_at(names, only.kind))))
         }
         [first, rest @ ..] => match word_at(names, first.kind) {
@@ -213,11 +245,11 @@ fn read_modifiers(alloc: Global, names: &NameTable, syms: &[Sym]) -> Result<Modi
 }
 
 // What goes on behind the names of `linear`.
-#[tactic(auto, unfolding(crate::specs::Reading::behind_ids))]
+#[tactic(auto, unfolding(crate::specs::Inner::Reading::behind_ids))]
 fn behind_ids(
     alloc: Global,
     names: &NameTable,
-    ids: Vec<NameId>,
+    ids: Vec<PlacedName>,
     behind: Option<&[Sym]>,
 ) -> Result<ClauseKind, Miss>
     ensures { Gives says_of result (spec.behind_ids names.now ids.items (option_map (λ r. r.now) behind.entry)) }
@@ -235,7 +267,7 @@ fn behind_ids(
 }
 
 // The step behind the parentheses of a modifier.
-#[tactic(auto, unfolding(crate::specs::Reading::behind_group))]
+#[tactic(auto, unfolding(crate::specs::Inner::Reading::behind_group))]
 fn behind_group(
     alloc: Global,
     names: &NameTable,
@@ -252,7 +284,7 @@ fn behind_group(
     Ok(Some(cond(alloc, syms)?))
 }
 
-#[tactic(auto, unfolding(crate::specs::Reading::ids_linear))]
+#[tactic(auto, unfolding(crate::specs::Inner::Reading::ids_linear))]
 fn ids_linear(alloc: Global, names: &NameTable, syms: &[Sym]) -> Result<ClauseKind, Miss>
     ensures { Gives says_of result (spec.ids_linear names.now syms.now) }
 {
@@ -261,7 +293,7 @@ fn ids_linear(alloc: Global, names: &NameTable, syms: &[Sym]) -> Result<ClauseKi
     behind_ids(alloc, names, list, behind)
 }
 
-#[tactic(auto, unfolding(crate::specs::Reading::modified_linear))]
+#[tactic(auto, unfolding(crate::specs::Inner::Reading::modified_linear))]
 fn modified_linear(
     alloc: Global,
     names: &NameTable,
@@ -270,7 +302,7 @@ fn modified_linear(
 ) -> Result<ClauseKind, Miss>
     ensures { Gives says_of result (spec.modified_linear names.now first rest.now) }
 {
-    let _name = name(first.kind)?;
+    let _name = name(first)?;
     let (before, behind) = at_colon(rest);
     let list = ids(alloc, inside(before)?)?;
     let step = behind_group(alloc, names, behind)?;
@@ -279,7 +311,7 @@ fn modified_linear(
 }
 
 // What stands in the parentheses of `linear`.
-#[tactic(auto, unfolding(crate::specs::Reading::linear_in))]
+#[tactic(auto, unfolding(crate::specs::Inner::Reading::linear_in))]
 fn linear(alloc: Global, names: &NameTable, syms: &[Sym]) -> Result<ClauseKind, Miss>
     ensures { Gives says_of result (spec.linear_in names.now syms.now) }
 {
@@ -296,7 +328,7 @@ fn linear(alloc: Global, names: &NameTable, syms: &[Sym]) -> Result<ClauseKind, 
 }
 
 // A clause that begins with this word, by the tokens behind it.
-#[tactic(auto, unfolding(crate::specs::Reading::form_in))]
+#[tactic(auto, unfolding(crate::specs::Inner::Reading::form_in))]
 fn form(
     alloc: Global,
     names: &NameTable,
@@ -316,17 +348,35 @@ fn form(
     }
 }
 
-/// What a clause says, by its tokens: a word with what stands in parentheses directly behind it, or one token.
-#[tactic(auto, unfolding(crate::specs::Reading::says_in))]
-pub fn clause_kind(alloc: Global, names: &NameTable, syms: &[Sym]) -> Result<ClauseKind, Memory>
-    ensures { IfOk result (λ k. says_of k ≡ spec.says_in names.now syms.now) }
+// A clause of one of the forms, by all its tokens.
+fn known(alloc: Global, names: &NameTable, syms: &[Sym]) -> Result<ClauseKind, Miss>
+    ensures { Gives says_of result (spec.known_in names.now syms.now) }
 {
-    let [first, rest @ ..] = syms else {
-        return Ok(ClauseKind::Other);
-    };
-    match form(alloc, names, word_at(names, first.kind), rest) {
-        Ok(kind) => Ok(kind),
-        Err(Miss::NoForm) => Ok(ClauseKind::Other),
+    match syms {
+        [] => Err(Miss::NoForm),
+        [first, rest @ ..] => form(alloc, names, word_at(names, first.kind), rest),
+    }
+}
+
+/// A clause, by its tokens: a word with what stands in parentheses directly behind it, or one token.
+#[tactic(auto, unfolding(crate::specs::Inner::Reading::clause_in))]
+pub fn read_clause(alloc: Global, names: &NameTable, syms: &[Sym]) -> Result<Clause, Memory>
+    ensures { IfOk result (λ c. clause_of c ≡ spec.clause_in names.now syms.now) }
+{
+    let start = start_at(syms);
+    match known(alloc, names, syms) {
+        Ok(kind) => Ok(Clause {
+            line: start.line,
+            token: start.token,
+            kind,
+            names: names_in(alloc, syms)?,
+        }),
+        Err(Miss::NoForm) => Ok(Clause {
+            line: start.line,
+            token: start.token,
+            kind: ClauseKind::Other,
+            names: Vec::new(alloc),
+        }),
         Err(Miss::Memory) => Err(Memory),
     }
 }

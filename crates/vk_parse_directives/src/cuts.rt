@@ -10,8 +10,8 @@ ghost use Rattle.std.specs.List.{position};
 use crate::miss::Miss;
 use crate::words::{Word, word_at};
 use vk_ast::NameTable;
-use vk_parse_expr::signs::{is_sign, kind_at};
 use vk_grammar_expr::{Sym, SymKind};
+use vk_parse_expr::signs::{is_sign, kind_at};
 use vk_tokens::Mark;
 
 fn is_any_word(kind: SymKind) -> bool

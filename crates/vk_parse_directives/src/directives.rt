@@ -6,7 +6,7 @@ ghost use Rattle.vk_parse_directives.specs.Clauses.{AreClauses};
 ghost use Rattle.vk_parse_directives.specs.Directives.{line_clauses};
 ghost use Rattle.vk_parse_directives.specs.Inner.Reading as spec;
 
-use crate::clauses::clause_kind;
+use crate::clauses::read_clause;
 use crate::cuts::{piece_len, skips_comma};
 use std::alloc::Global;
 use vk_ast::{Clause, Directive, NameTable};
@@ -20,17 +20,13 @@ fn clauses_of(alloc: Global, names: &NameTable, line: &[Sym]) -> Result<Vec<Clau
 {
     let mut list = Vec::new(alloc);
     let mut rest = line;
-    while let [first, behind @ ..] = rest {
+    while let [_, behind @ ..] = rest {
         if skips_comma(rest) {
             rest = behind;
             continue;
         }
         let (text, next) = rest.split_at(piece_len(rest));
-        let kind = clause_kind(alloc, names, text)?;
-        list.push(Clause {
-            token: first.at,
-            kind,
-        })?;
+        list.push(read_clause(alloc, names, text)?)?;
         rest = next;
     }
     Ok(list)

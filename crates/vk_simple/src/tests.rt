@@ -61,8 +61,10 @@ fn adds_in_int_and_returns_a_byte(rt: HostRuntime) -> Result<(), Fail> {
     )?;
     let returned = statement(StmtKind::Return(Some(sum)));
     let clause = Clause {
+        line: 1,
         token: 1,
         kind: ClauseKind::Outside,
+        names: Vec::new(alloc),
     };
     let directive = Directive {
         line: 1,
