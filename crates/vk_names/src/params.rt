@@ -27,7 +27,7 @@ pub(crate) fn negative_step(size: u32) -> Step
 }
 
 /// A step: nothing, a number, `n` and a number, or `s` and a position.
-#[tactic(auto, unfolding(crate::specs::Reading::step_at))]
+#[tactic(auto, unfolding(crate::specs::Inner::Reading::step_at))]
 fn step(bytes: &[u8]) -> Result<(Step, &[u8]), Stop>
     ensures { Gives (λ x. (x.0, x.1.now)) result (step_at bytes.now) }
 {
@@ -49,7 +49,7 @@ fn step(bytes: &[u8]) -> Result<(Step, &[u8]), Stop>
 }
 
 /// A kind and its step.
-#[tactic(auto, unfolding(crate::specs::Reading::kind_at))]
+#[tactic(auto, unfolding(crate::specs::Inner::Reading::kind_at))]
 fn kind(bytes: &[u8]) -> Result<(Kind, &[u8]), Stop>
     ensures { Gives (λ x. (x.0, x.1.now)) result (kind_at bytes.now) }
 {
@@ -80,7 +80,7 @@ fn kind(bytes: &[u8]) -> Result<(Kind, &[u8]), Stop>
 }
 
 /// An alignment, where there is one.
-#[tactic(auto, unfolding(crate::specs::Reading::align_at))]
+#[tactic(auto, unfolding(crate::specs::Inner::Reading::align_at))]
 fn align(bytes: &[u8]) -> Result<(Option<u32>, &[u8]), Stop>
     ensures { Gives (λ x. (x.0, x.1.now)) result (align_at bytes.now) }
 {
@@ -98,7 +98,7 @@ fn align(bytes: &[u8]) -> Result<(Option<u32>, &[u8]), Stop>
 }
 
 /// One parameter.
-#[tactic(auto, unfolding(crate::specs::Reading::param_at))]
+#[tactic(auto, unfolding(crate::specs::Inner::Reading::param_at))]
 fn param(bytes: &[u8]) -> Result<(Param, &[u8]), Stop>
     ensures { Gives (λ x. (x.0, x.1.now)) result (param_at bytes.now) }
 {
@@ -108,7 +108,7 @@ fn param(bytes: &[u8]) -> Result<(Param, &[u8]), Stop>
 }
 
 /// What follows the underscore that ends the parameters, or nothing where another parameter begins.
-#[tactic(auto, unfolding(crate::specs::Reading::end_at))]
+#[tactic(auto, unfolding(crate::specs::Inner::Reading::end_at))]
 fn end(bytes: &[u8]) -> Result<Option<&[u8]>, Stop>
     ensures { Gives (λ x. option_map (λ r. r.now) x) result (end_at bytes.now) }
 {
@@ -179,7 +179,7 @@ fn all_placed(params: &[Param]) -> bool
 }
 
 /// The first position that names none, of the parameters that the bytes begin with.
-#[tactic(auto, unfolding(crate::specs::Reading::misplaced_at))]
+#[tactic(auto, unfolding(crate::specs::Inner::Reading::misplaced_at))]
 fn misplaced(params: &[Param], bytes: &[u8]) -> Stop
     ensures { result ≡ misplaced_at params.now params.now bytes.now }
 {

@@ -33,7 +33,7 @@ fn text_of(bytes: &[u8]) -> &[u8]
 }
 
 /// The number of the digits in front, at most `u32::MAX`, and what follows them.
-#[tactic(auto, unfolding(crate::specs::Reading::digits_at))]
+#[tactic(auto, unfolding(crate::specs::Inner::Reading::digits_at))]
 fn digits(bytes: &[u8]) -> (u32, &[u8])
     ensures number { result.0 ≡ (digits_at bytes.now).0 }
     ensures rest { result.1.now ≡ (digits_at bytes.now).1 }
@@ -57,7 +57,7 @@ fn has_zero(bytes: &[u8]) -> bool
 }
 
 /// A number without a leading 0 that is in the range.
-#[tactic(auto, unfolding(crate::specs::Reading::number_at))]
+#[tactic(auto, unfolding(crate::specs::Inner::Reading::number_at))]
 pub(crate) fn number(
     bytes: &[u8],
     low: u32,
@@ -79,7 +79,7 @@ pub(crate) fn number(
 }
 
 /// A position of any size without a leading 0, at most 255.
-#[tactic(auto, unfolding(crate::specs::Reading::position_at))]
+#[tactic(auto, unfolding(crate::specs::Inner::Reading::position_at))]
 pub(crate) fn position(bytes: &[u8]) -> Result<(u8, &[u8]), Stop>
     ensures { Gives (λ x. (x.0, x.1.now)) result (position_at bytes.now) }
 {
@@ -94,7 +94,7 @@ pub(crate) fn position(bytes: &[u8]) -> Result<(u8, &[u8]), Stop>
 }
 
 /// What follows one byte of `_ZGV`.
-#[tactic(auto, unfolding(crate::specs::Reading::byte_at))]
+#[tactic(auto, unfolding(crate::specs::Inner::Reading::byte_at))]
 fn byte(bytes: &[u8], wanted: u8) -> Result<&[u8], Stop>
     ensures { Gives (λ x. x.now) result (byte_at wanted bytes.now) }
 {
@@ -108,7 +108,7 @@ fn byte(bytes: &[u8], wanted: u8) -> Result<&[u8], Stop>
 }
 
 /// What follows `_ZGV`.
-#[tactic(auto, unfolding(crate::specs::Reading::mark_at))]
+#[tactic(auto, unfolding(crate::specs::Inner::Reading::mark_at))]
 fn mark(bytes: &[u8]) -> Result<&[u8], Stop>
     ensures { Gives (λ x. x.now) result (mark_at bytes.now) }
 {
@@ -119,7 +119,7 @@ fn mark(bytes: &[u8]) -> Result<&[u8], Stop>
 }
 
 /// The letter of an instruction set.
-#[tactic(auto, unfolding(crate::specs::Reading::isa_at))]
+#[tactic(auto, unfolding(crate::specs::Inner::Reading::isa_at))]
 fn isa(bytes: &[u8]) -> Result<(Isa, &[u8]), Stop>
     ensures { Gives (λ x. (x.0, x.1.now)) result (isa_at bytes.now) }
 {
@@ -138,7 +138,7 @@ fn isa(bytes: &[u8]) -> Result<(Isa, &[u8]), Stop>
 }
 
 /// Whether there is a mask.
-#[tactic(auto, unfolding(crate::specs::Reading::mask_at))]
+#[tactic(auto, unfolding(crate::specs::Inner::Reading::mask_at))]
 fn mask(bytes: &[u8]) -> Result<(bool, &[u8]), Stop>
     ensures { Gives (λ x. (x.0, x.1.now)) result (mask_at bytes.now) }
 {
@@ -153,7 +153,7 @@ fn mask(bytes: &[u8]) -> Result<(bool, &[u8]), Stop>
 }
 
 /// The length: `x` only after `sM`.
-#[tactic(auto, unfolding(crate::specs::Reading::len_at))]
+#[tactic(auto, unfolding(crate::specs::Inner::Reading::len_at))]
 fn len(isa: Isa, masked: bool, bytes: &[u8]) -> Result<(Len, &[u8]), Stop>
     ensures { Gives (λ x. (x.0, x.1.now)) result (len_at isa masked bytes.now) }
 {
@@ -171,7 +171,7 @@ fn len(isa: Isa, masked: bool, bytes: &[u8]) -> Result<(Len, &[u8]), Stop>
 }
 
 /// What stands before the parameters.
-#[tactic(auto, unfolding(crate::specs::Reading::front_at))]
+#[tactic(auto, unfolding(crate::specs::Inner::Reading::front_at))]
 fn front(bytes: &[u8]) -> Result<(Length, &[u8]), Stop>
     ensures { Gives (λ x. (x.0, x.1.now)) result (front_at bytes.now) }
 {
@@ -183,7 +183,7 @@ fn front(bytes: &[u8]) -> Result<(Length, &[u8]), Stop>
 }
 
 /// The scalar name: all that is left.
-#[tactic(auto, unfolding(crate::specs::Reading::scalar_at))]
+#[tactic(auto, unfolding(crate::specs::Inner::Reading::scalar_at))]
 fn scalar(bytes: &[u8]) -> Result<&[u8], Stop>
     ensures { Gives (λ x. x.now) result (scalar_at bytes.now) }
 {
@@ -201,7 +201,7 @@ fn scalar(bytes: &[u8]) -> Result<&[u8], Stop>
 }
 
 /// A whole text, and its scalar name.
-#[tactic(auto, unfolding(crate::specs::Reading::name_at))]
+#[tactic(auto, unfolding(crate::specs::Inner::Reading::name_at))]
 fn whole(text: &[u8]) -> Result<(NameHead, &[u8]), Stop>
     ensures { Gives (λ x. name_of x.0 x.1.now) result (name_at text.now) }
 {

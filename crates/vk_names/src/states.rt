@@ -226,7 +226,7 @@ fn inside_on(front: Length, params: &mut Params, at: u32, item: Item, byte: u8) 
 }
 
 /// The state after a letter, a digit or an underscore. Parameters that are whole now are added.
-#[tactic(auto, unfolding(crate::specs::Steps::byte_on))]
+#[tactic(auto, unfolding(crate::specs::Inner::Steps::byte_on))]
 fn byte_on(state: State, params: &mut Params, byte: u8) -> State
     ensures { (result, params.new.items) ≡ byte_on state params.old.items byte }
 {
@@ -247,7 +247,7 @@ fn byte_on(state: State, params: &mut Params, byte: u8) -> State
 }
 
 /// What the bytes so far are, if the text ends here.
-#[tactic(auto, unfolding(crate::specs::Steps::end_on))]
+#[tactic(auto, unfolding(crate::specs::Inner::Steps::end_on))]
 pub(crate) fn end_on(state: State) -> Result<Found, NameFault>
     ensures { result ≡ end_on state }
 {
