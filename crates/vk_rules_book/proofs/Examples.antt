@@ -8,6 +8,7 @@ use Rattle.vk_types.specs.declared.types.Ty.TheVariants.{I32}
 use Rattle.vk_kinds.specs.declared.heads.CType.{CType}
 use Rattle.vk_kinds.specs.declared.heads.CType.TheVariants.{Void, Int, Ptr}
 use Rattle.vk_kinds.specs.declared.kinds.Target.TheVariants.{X86, Arm}
+use Rattle.vk_kinds.specs.Sizes.{cdt, nds, wds}
 use Rattle.vk_kinds.specs.Lengths.{lengths}
 use Rattle.vk_ast.specs.declared.names.NameId.{NameId}
 use Rattle.vk_ast.specs.declared.items.ParamDecl.{ParamDecl}
@@ -396,134 +397,42 @@ unit_33 = record {
   target = X86;
 }
 
-unit_1_told : first_told unit_1 ≡ None
-unfolding int_wrap faults_of first_among constant_of first_declaration last_binding meaning_of is_taken with_params are_arguments choice_typing expression_faults call_faults called_faults statement_faults parameter_faults param_of number_of is_uniform step_of kind_in align_in branch_in simdlen_in signature_of same_params same_signatures share_a_name powers said_faults clause_faults entry_faults has_signature repeats_a_name directive_faults same_ctypes length_of initial_faults definition_in costs item_faults lengths
-unit_1_told = refl
-
-unit_2_told : first_told unit_2 ≡ (Some (told r.C8 1 0))
-unfolding int_wrap faults_of first_among constant_of first_declaration last_binding meaning_of is_taken with_params are_arguments choice_typing expression_faults call_faults called_faults statement_faults parameter_faults param_of number_of is_uniform step_of kind_in align_in branch_in simdlen_in signature_of same_params same_signatures share_a_name powers said_faults clause_faults entry_faults has_signature repeats_a_name directive_faults same_ctypes length_of initial_faults definition_in costs item_faults lengths
-unit_2_told = refl
-
-unit_3_told : first_told unit_3 ≡ (Some (told r.C8 1 0))
-unfolding int_wrap faults_of first_among constant_of first_declaration last_binding meaning_of is_taken with_params are_arguments choice_typing expression_faults call_faults called_faults statement_faults parameter_faults param_of number_of is_uniform step_of kind_in align_in branch_in simdlen_in signature_of same_params same_signatures share_a_name powers said_faults clause_faults entry_faults has_signature repeats_a_name directive_faults same_ctypes length_of initial_faults definition_in costs item_faults lengths
-unit_3_told = refl
-
-unit_4_told : first_told unit_4 ≡ (Some (told r.C8 2 0))
-unfolding int_wrap faults_of first_among constant_of first_declaration last_binding meaning_of is_taken with_params are_arguments choice_typing expression_faults call_faults called_faults statement_faults parameter_faults param_of number_of is_uniform step_of kind_in align_in branch_in simdlen_in signature_of same_params same_signatures share_a_name powers said_faults clause_faults entry_faults has_signature repeats_a_name directive_faults same_ctypes length_of initial_faults definition_in costs item_faults lengths
-unit_4_told = refl
-
-unit_5_told : first_told unit_5 ≡ (Some (told r.C9 1 0))
-unfolding int_wrap faults_of first_among constant_of first_declaration last_binding meaning_of is_taken with_params are_arguments choice_typing expression_faults call_faults called_faults statement_faults parameter_faults param_of number_of is_uniform step_of kind_in align_in branch_in simdlen_in signature_of same_params same_signatures share_a_name powers said_faults clause_faults entry_faults has_signature repeats_a_name directive_faults same_ctypes length_of initial_faults definition_in costs item_faults lengths
-unit_5_told = refl
-
-unit_6_told : first_told unit_6 ≡ (Some (told r.C9 1 0))
-unfolding int_wrap faults_of first_among constant_of first_declaration last_binding meaning_of is_taken with_params are_arguments choice_typing expression_faults call_faults called_faults statement_faults parameter_faults param_of number_of is_uniform step_of kind_in align_in branch_in simdlen_in signature_of same_params same_signatures share_a_name powers said_faults clause_faults entry_faults has_signature repeats_a_name directive_faults same_ctypes length_of initial_faults definition_in costs item_faults lengths
-unit_6_told = refl
-
-unit_7_told : first_told unit_7 ≡ (Some (told r.C8 1 0))
-unfolding int_wrap faults_of first_among constant_of first_declaration last_binding meaning_of is_taken with_params are_arguments choice_typing expression_faults call_faults called_faults statement_faults parameter_faults param_of number_of is_uniform step_of kind_in align_in branch_in simdlen_in signature_of same_params same_signatures share_a_name powers said_faults clause_faults entry_faults has_signature repeats_a_name directive_faults same_ctypes length_of initial_faults definition_in costs item_faults lengths
-unit_7_told = refl
-
-unit_8_told : first_told unit_8 ≡ (Some (told r.C9 2 0))
-unfolding int_wrap faults_of first_among constant_of first_declaration last_binding meaning_of is_taken with_params are_arguments choice_typing expression_faults call_faults called_faults statement_faults parameter_faults param_of number_of is_uniform step_of kind_in align_in branch_in simdlen_in signature_of same_params same_signatures share_a_name powers said_faults clause_faults entry_faults has_signature repeats_a_name directive_faults same_ctypes length_of initial_faults definition_in costs item_faults lengths
-unit_8_told = refl
-
-unit_9_told : first_told unit_9 ≡ (Some (told r.C10 1 0))
-unfolding int_wrap faults_of first_among constant_of first_declaration last_binding meaning_of is_taken with_params are_arguments choice_typing expression_faults call_faults called_faults statement_faults parameter_faults param_of number_of is_uniform step_of kind_in align_in branch_in simdlen_in signature_of same_params same_signatures share_a_name powers said_faults clause_faults entry_faults has_signature repeats_a_name directive_faults same_ctypes length_of initial_faults definition_in costs item_faults lengths
-unit_9_told = refl
-
-unit_10_told : first_told unit_10 ≡ (Some (told r.C10 2 0))
-unfolding int_wrap faults_of first_among constant_of first_declaration last_binding meaning_of is_taken with_params are_arguments choice_typing expression_faults call_faults called_faults statement_faults parameter_faults param_of number_of is_uniform step_of kind_in align_in branch_in simdlen_in signature_of same_params same_signatures share_a_name powers said_faults clause_faults entry_faults has_signature repeats_a_name directive_faults same_ctypes length_of initial_faults definition_in costs item_faults lengths
-unit_10_told = refl
-
-unit_11_told : first_told unit_11 ≡ (Some (told r.C11 2 0))
-unfolding int_wrap faults_of first_among constant_of first_declaration last_binding meaning_of is_taken with_params are_arguments choice_typing expression_faults call_faults called_faults statement_faults parameter_faults param_of number_of is_uniform step_of kind_in align_in branch_in simdlen_in signature_of same_params same_signatures share_a_name powers said_faults clause_faults entry_faults has_signature repeats_a_name directive_faults same_ctypes length_of initial_faults definition_in costs item_faults lengths
-unit_11_told = refl
-
-unit_12_told : first_told unit_12 ≡ (Some (told r.C11 1 0))
-unfolding int_wrap faults_of first_among constant_of first_declaration last_binding meaning_of is_taken with_params are_arguments choice_typing expression_faults call_faults called_faults statement_faults parameter_faults param_of number_of is_uniform step_of kind_in align_in branch_in simdlen_in signature_of same_params same_signatures share_a_name powers said_faults clause_faults entry_faults has_signature repeats_a_name directive_faults same_ctypes length_of initial_faults definition_in costs item_faults lengths
-unit_12_told = refl
-
-unit_13_told : first_told unit_13 ≡ (Some (told r.C13 1 0))
-unfolding int_wrap faults_of first_among constant_of first_declaration last_binding meaning_of is_taken with_params are_arguments choice_typing expression_faults call_faults called_faults statement_faults parameter_faults param_of number_of is_uniform step_of kind_in align_in branch_in simdlen_in signature_of same_params same_signatures share_a_name powers said_faults clause_faults entry_faults has_signature repeats_a_name directive_faults same_ctypes length_of initial_faults definition_in costs item_faults lengths
-unit_13_told = refl
-
-unit_14_told : first_told unit_14 ≡ (Some (told r.C13 1 0))
-unfolding int_wrap faults_of first_among constant_of first_declaration last_binding meaning_of is_taken with_params are_arguments choice_typing expression_faults call_faults called_faults statement_faults parameter_faults param_of number_of is_uniform step_of kind_in align_in branch_in simdlen_in signature_of same_params same_signatures share_a_name powers said_faults clause_faults entry_faults has_signature repeats_a_name directive_faults same_ctypes length_of initial_faults definition_in costs item_faults lengths
-unit_14_told = refl
-
-unit_15_told : first_told unit_15 ≡ (Some (told r.C14 2 0))
-unfolding int_wrap faults_of first_among constant_of first_declaration last_binding meaning_of is_taken with_params are_arguments choice_typing expression_faults call_faults called_faults statement_faults parameter_faults param_of number_of is_uniform step_of kind_in align_in branch_in simdlen_in signature_of same_params same_signatures share_a_name powers said_faults clause_faults entry_faults has_signature repeats_a_name directive_faults same_ctypes length_of initial_faults definition_in costs item_faults lengths
-unit_15_told = refl
-
-unit_16_told : first_told unit_16 ≡ (Some (told r.C15 1 0))
-unfolding int_wrap faults_of first_among constant_of first_declaration last_binding meaning_of is_taken with_params are_arguments choice_typing expression_faults call_faults called_faults statement_faults parameter_faults param_of number_of is_uniform step_of kind_in align_in branch_in simdlen_in signature_of same_params same_signatures share_a_name powers said_faults clause_faults entry_faults has_signature repeats_a_name directive_faults same_ctypes length_of initial_faults definition_in costs item_faults lengths
-unit_16_told = refl
-
-unit_17_told : first_told unit_17 ≡ (Some (told r.D3 1 1))
-unfolding int_wrap faults_of first_among constant_of first_declaration last_binding meaning_of is_taken with_params are_arguments choice_typing expression_faults call_faults called_faults statement_faults parameter_faults param_of number_of is_uniform step_of kind_in align_in branch_in simdlen_in signature_of same_params same_signatures share_a_name powers said_faults clause_faults entry_faults has_signature repeats_a_name directive_faults same_ctypes length_of initial_faults definition_in costs item_faults lengths
-unit_17_told = refl
-
-unit_18_told : first_told unit_18 ≡ (Some (told r.D6 1 1))
-unfolding int_wrap faults_of first_among constant_of first_declaration last_binding meaning_of is_taken with_params are_arguments choice_typing expression_faults call_faults called_faults statement_faults parameter_faults param_of number_of is_uniform step_of kind_in align_in branch_in simdlen_in signature_of same_params same_signatures share_a_name powers said_faults clause_faults entry_faults has_signature repeats_a_name directive_faults same_ctypes length_of initial_faults definition_in costs item_faults lengths
-unit_18_told = refl
-
-unit_19_told : first_told unit_19 ≡ (Some (told r.D6 2 2))
-unfolding int_wrap faults_of first_among constant_of first_declaration last_binding meaning_of is_taken with_params are_arguments choice_typing expression_faults call_faults called_faults statement_faults parameter_faults param_of number_of is_uniform step_of kind_in align_in branch_in simdlen_in signature_of same_params same_signatures share_a_name powers said_faults clause_faults entry_faults has_signature repeats_a_name directive_faults same_ctypes length_of initial_faults definition_in costs item_faults lengths
-unit_19_told = refl
-
-unit_20_told : first_told unit_20 ≡ (Some (told r.D9 2 2))
-unfolding int_wrap faults_of first_among constant_of first_declaration last_binding meaning_of is_taken with_params are_arguments choice_typing expression_faults call_faults called_faults statement_faults parameter_faults param_of number_of is_uniform step_of kind_in align_in branch_in simdlen_in signature_of same_params same_signatures share_a_name powers said_faults clause_faults entry_faults has_signature repeats_a_name directive_faults same_ctypes length_of initial_faults definition_in costs item_faults lengths
-unit_20_told = refl
-
-unit_21_told : first_told unit_21 ≡ (Some (told r.D8 1 1))
-unfolding int_wrap faults_of first_among constant_of first_declaration last_binding meaning_of is_taken with_params are_arguments choice_typing expression_faults call_faults called_faults statement_faults parameter_faults param_of number_of is_uniform step_of kind_in align_in branch_in simdlen_in signature_of same_params same_signatures share_a_name powers said_faults clause_faults entry_faults has_signature repeats_a_name directive_faults same_ctypes length_of initial_faults definition_in costs item_faults lengths
-unit_21_told = refl
-
-unit_22_told : first_told unit_22 ≡ (Some (told r.D14 1 1))
-unfolding int_wrap faults_of first_among constant_of first_declaration last_binding meaning_of is_taken with_params are_arguments choice_typing expression_faults call_faults called_faults statement_faults parameter_faults param_of number_of is_uniform step_of kind_in align_in branch_in simdlen_in signature_of same_params same_signatures share_a_name powers said_faults clause_faults entry_faults has_signature repeats_a_name directive_faults same_ctypes length_of initial_faults definition_in costs item_faults lengths
-unit_22_told = refl
-
-unit_23_told : first_told unit_23 ≡ (Some (told r.D1 1 1))
-unfolding int_wrap faults_of first_among constant_of first_declaration last_binding meaning_of is_taken with_params are_arguments choice_typing expression_faults call_faults called_faults statement_faults parameter_faults param_of number_of is_uniform step_of kind_in align_in branch_in simdlen_in signature_of same_params same_signatures share_a_name powers said_faults clause_faults entry_faults has_signature repeats_a_name directive_faults same_ctypes length_of initial_faults definition_in costs item_faults lengths
-unit_23_told = refl
-
-unit_24_told : first_told unit_24 ≡ (Some (told r.D11 1 1))
-unfolding int_wrap faults_of first_among constant_of first_declaration last_binding meaning_of is_taken with_params are_arguments choice_typing expression_faults call_faults called_faults statement_faults parameter_faults param_of number_of is_uniform step_of kind_in align_in branch_in simdlen_in signature_of same_params same_signatures share_a_name powers said_faults clause_faults entry_faults has_signature repeats_a_name directive_faults same_ctypes length_of initial_faults definition_in costs item_faults lengths
-unit_24_told = refl
-
-unit_25_told : first_told unit_25 ≡ (Some (told r.D15 4 1))
-unfolding int_wrap faults_of first_among constant_of first_declaration last_binding meaning_of is_taken with_params are_arguments choice_typing expression_faults call_faults called_faults statement_faults parameter_faults param_of number_of is_uniform step_of kind_in align_in branch_in simdlen_in signature_of same_params same_signatures share_a_name powers said_faults clause_faults entry_faults has_signature repeats_a_name directive_faults same_ctypes length_of initial_faults definition_in costs item_faults lengths
-unit_25_told = refl
-
-unit_26_told : first_told unit_26 ≡ (Some (told r.D16 5 2))
-unfolding int_wrap faults_of first_among constant_of first_declaration last_binding meaning_of is_taken with_params are_arguments choice_typing expression_faults call_faults called_faults statement_faults parameter_faults param_of number_of is_uniform step_of kind_in align_in branch_in simdlen_in signature_of same_params same_signatures share_a_name powers said_faults clause_faults entry_faults has_signature repeats_a_name directive_faults same_ctypes length_of initial_faults definition_in costs item_faults lengths
-unit_26_told = refl
-
-unit_27_told : first_told unit_27 ≡ (Some (told r.D17 3 2))
-unfolding int_wrap faults_of first_among constant_of first_declaration last_binding meaning_of is_taken with_params are_arguments choice_typing expression_faults call_faults called_faults statement_faults parameter_faults param_of number_of is_uniform step_of kind_in align_in branch_in simdlen_in signature_of same_params same_signatures share_a_name powers said_faults clause_faults entry_faults has_signature repeats_a_name directive_faults same_ctypes length_of initial_faults definition_in costs item_faults lengths
-unit_27_told = refl
-
-unit_28_told : first_told unit_28 ≡ None
-unfolding int_wrap faults_of first_among constant_of first_declaration last_binding meaning_of is_taken with_params are_arguments choice_typing expression_faults call_faults called_faults statement_faults parameter_faults param_of number_of is_uniform step_of kind_in align_in branch_in simdlen_in signature_of same_params same_signatures share_a_name powers said_faults clause_faults entry_faults has_signature repeats_a_name directive_faults same_ctypes length_of initial_faults definition_in costs item_faults lengths
-unit_28_told = refl
-
-unit_29_told : first_told unit_29 ≡ (Some (told r.D18 3 2))
-unfolding int_wrap faults_of first_among constant_of first_declaration last_binding meaning_of is_taken with_params are_arguments choice_typing expression_faults call_faults called_faults statement_faults parameter_faults param_of number_of is_uniform step_of kind_in align_in branch_in simdlen_in signature_of same_params same_signatures share_a_name powers said_faults clause_faults entry_faults has_signature repeats_a_name directive_faults same_ctypes length_of initial_faults definition_in costs item_faults lengths
-unit_29_told = refl
-
-unit_30_told : first_told unit_30 ≡ (Some (told r.D19 2 2))
-unfolding int_wrap faults_of first_among constant_of first_declaration last_binding meaning_of is_taken with_params are_arguments choice_typing expression_faults call_faults called_faults statement_faults parameter_faults param_of number_of is_uniform step_of kind_in align_in branch_in simdlen_in signature_of same_params same_signatures share_a_name powers said_faults clause_faults entry_faults has_signature repeats_a_name directive_faults same_ctypes length_of initial_faults definition_in costs item_faults lengths
-unit_30_told = refl
-
-unit_31_told : first_told unit_31 ≡ None
-unfolding int_wrap faults_of first_among constant_of first_declaration last_binding meaning_of is_taken with_params are_arguments choice_typing expression_faults call_faults called_faults statement_faults parameter_faults param_of number_of is_uniform step_of kind_in align_in branch_in simdlen_in signature_of same_params same_signatures share_a_name powers said_faults clause_faults entry_faults has_signature repeats_a_name directive_faults same_ctypes length_of initial_faults definition_in costs item_faults lengths
-unit_31_told = refl
-
-unit_32_told : first_told unit_32 ≡ (Some (told r.C8 1 0))
-unfolding int_wrap faults_of first_among constant_of first_declaration last_binding meaning_of is_taken with_params are_arguments choice_typing expression_faults call_faults called_faults statement_faults parameter_faults param_of number_of is_uniform step_of kind_in align_in branch_in simdlen_in signature_of same_params same_signatures share_a_name powers said_faults clause_faults entry_faults has_signature repeats_a_name directive_faults same_ctypes length_of initial_faults definition_in costs item_faults lengths
-unit_32_told = refl
-
-unit_33_told : first_told unit_33 ≡ (Some (told r.D12 1 1))
-unfolding int_wrap faults_of first_among constant_of first_declaration last_binding meaning_of is_taken with_params are_arguments choice_typing expression_faults call_faults called_faults statement_faults parameter_faults param_of number_of is_uniform step_of kind_in align_in branch_in simdlen_in signature_of same_params same_signatures share_a_name powers said_faults clause_faults entry_faults has_signature repeats_a_name directive_faults same_ctypes length_of initial_faults definition_in costs item_faults lengths
-unit_33_told = refl
+-- the first faults of all of them
+first_faults :
+    map first_told (unit_1 ∷ unit_2 ∷ unit_3 ∷ unit_4 ∷ unit_5 ∷ unit_6 ∷ unit_7 ∷ unit_8 ∷ unit_9 ∷ unit_10 ∷ unit_11 ∷ unit_12 ∷ unit_13 ∷ unit_14 ∷ unit_15 ∷ unit_16 ∷ unit_17 ∷ unit_18 ∷ unit_19 ∷ unit_20 ∷ unit_21 ∷ unit_22 ∷ unit_23 ∷ unit_24 ∷ unit_25 ∷ unit_26 ∷ unit_27 ∷ unit_28 ∷ unit_29 ∷ unit_30 ∷ unit_31 ∷ unit_32 ∷ unit_33 ∷ [])
+    ≡ None
+      ∷ Some (told r.C8 1 0)
+      ∷ Some (told r.C8 1 0)
+      ∷ Some (told r.C8 2 0)
+      ∷ Some (told r.C9 1 0)
+      ∷ Some (told r.C9 1 0)
+      ∷ Some (told r.C8 1 0)
+      ∷ Some (told r.C9 2 0)
+      ∷ Some (told r.C10 1 0)
+      ∷ Some (told r.C10 2 0)
+      ∷ Some (told r.C11 2 0)
+      ∷ Some (told r.C11 1 0)
+      ∷ Some (told r.C13 1 0)
+      ∷ Some (told r.C13 1 0)
+      ∷ Some (told r.C14 2 0)
+      ∷ Some (told r.C15 1 0)
+      ∷ Some (told r.D3 1 1)
+      ∷ Some (told r.D6 1 1)
+      ∷ Some (told r.D6 2 2)
+      ∷ Some (told r.D9 2 2)
+      ∷ Some (told r.D8 1 1)
+      ∷ Some (told r.D14 1 1)
+      ∷ Some (told r.D1 1 1)
+      ∷ Some (told r.D11 1 1)
+      ∷ Some (told r.D15 4 1)
+      ∷ Some (told r.D16 5 2)
+      ∷ Some (told r.D17 3 2)
+      ∷ None
+      ∷ Some (told r.D18 3 2)
+      ∷ Some (told r.D19 2 2)
+      ∷ None
+      ∷ Some (told r.C8 1 0)
+      ∷ Some (told r.D12 1 1)
+      ∷ []
+unfolding int_wrap faults_of first_among constant_of first_declaration last_binding meaning_of is_taken with_params are_arguments choice_typing expression_faults call_faults called_faults statement_faults parameter_faults param_of number_of is_uniform step_of kind_in align_in branch_in simdlen_in signature_of same_params same_signatures share_a_name powers said_faults clause_faults entry_faults has_signature repeats_a_name directive_faults same_ctypes length_of initial_faults definition_in costs item_faults lengths cdt nds wds
+first_faults = refl
