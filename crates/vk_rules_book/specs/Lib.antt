@@ -9,4 +9,4 @@ pub mod Signatures
 pub mod Directives
 pub mod Items
 pub mod Rules
-pub mod Inner
+pub mod Noting
