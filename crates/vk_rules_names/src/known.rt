@@ -27,6 +27,7 @@ impl<'a> Place<'a> {
     /// The place in a function, where these parameters and variables are visible.
     pub fn with(&self, inner: &'a [Binding], outer: usize) -> Scopes<'a>
         ensures unit { unit_in result ≡ unit_of self.now }
+        ensures names { result.names.now ≡ self.now.names.now }
         ensures scope { scope_of result ≡ scope_at self.now inner.now outer }
     {
         Scopes {
