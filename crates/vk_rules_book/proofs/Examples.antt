@@ -144,7 +144,7 @@ unit_6 = record {
   target = X86;
 }
 
--- int g(int a); int f(int *p, int a) { return g(q) + 
+-- int g(int a); int f(int *p, int a) { return g(q) +
 --  g(p); }
 abbrev unit_7 : Subject
 unit_7 = record {
@@ -401,38 +401,38 @@ unit_33 = record {
 first_faults :
     map first_told (unit_1 ∷ unit_2 ∷ unit_3 ∷ unit_4 ∷ unit_5 ∷ unit_6 ∷ unit_7 ∷ unit_8 ∷ unit_9 ∷ unit_10 ∷ unit_11 ∷ unit_12 ∷ unit_13 ∷ unit_14 ∷ unit_15 ∷ unit_16 ∷ unit_17 ∷ unit_18 ∷ unit_19 ∷ unit_20 ∷ unit_21 ∷ unit_22 ∷ unit_23 ∷ unit_24 ∷ unit_25 ∷ unit_26 ∷ unit_27 ∷ unit_28 ∷ unit_29 ∷ unit_30 ∷ unit_31 ∷ unit_32 ∷ unit_33 ∷ [])
     ≡ None
-      ∷ Some (told r.C8 1 0)
-      ∷ Some (told r.C8 1 0)
-      ∷ Some (told r.C8 2 0)
-      ∷ Some (told r.C9 1 0)
-      ∷ Some (told r.C9 1 0)
-      ∷ Some (told r.C8 1 0)
-      ∷ Some (told r.C9 2 0)
-      ∷ Some (told r.C10 1 0)
-      ∷ Some (told r.C10 2 0)
-      ∷ Some (told r.C11 2 0)
-      ∷ Some (told r.C11 1 0)
-      ∷ Some (told r.C13 1 0)
-      ∷ Some (told r.C13 1 0)
-      ∷ Some (told r.C14 2 0)
-      ∷ Some (told r.C15 1 0)
-      ∷ Some (told r.D3 1 1)
-      ∷ Some (told r.D6 1 1)
-      ∷ Some (told r.D6 2 2)
-      ∷ Some (told r.D9 2 2)
-      ∷ Some (told r.D8 1 1)
-      ∷ Some (told r.D14 1 1)
-      ∷ Some (told r.D1 1 1)
-      ∷ Some (told r.D11 1 1)
-      ∷ Some (told r.D15 4 1)
-      ∷ Some (told r.D16 5 2)
-      ∷ Some (told r.D17 3 2)
-      ∷ None
-      ∷ Some (told r.D18 3 2)
-      ∷ Some (told r.D19 2 2)
-      ∷ None
-      ∷ Some (told r.C8 1 0)
-      ∷ Some (told r.D12 1 1)
-      ∷ []
+    ∷ Some (told r.C8 1 0)
+    ∷ Some (told r.C8 1 0)
+    ∷ Some (told r.C8 2 0)
+    ∷ Some (told r.C9 1 0)
+    ∷ Some (told r.C9 1 0)
+    ∷ Some (told r.C8 1 0)
+    ∷ Some (told r.C9 2 0)
+    ∷ Some (told r.C10 1 0)
+    ∷ Some (told r.C10 2 0)
+    ∷ Some (told r.C11 2 0)
+    ∷ Some (told r.C11 1 0)
+    ∷ Some (told r.C13 1 0)
+    ∷ Some (told r.C13 1 0)
+    ∷ Some (told r.C14 2 0)
+    ∷ Some (told r.C15 1 0)
+    ∷ Some (told r.D3 1 1)
+    ∷ Some (told r.D6 1 1)
+    ∷ Some (told r.D6 2 2)
+    ∷ Some (told r.D9 2 2)
+    ∷ Some (told r.D8 1 1)
+    ∷ Some (told r.D14 1 1)
+    ∷ Some (told r.D1 1 1)
+    ∷ Some (told r.D11 1 1)
+    ∷ Some (told r.D15 4 1)
+    ∷ Some (told r.D16 5 2)
+    ∷ Some (told r.D17 3 2)
+    ∷ None
+    ∷ Some (told r.D18 3 2)
+    ∷ Some (told r.D19 2 2)
+    ∷ None
+    ∷ Some (told r.C8 1 0)
+    ∷ Some (told r.D12 1 1)
+    ∷ []
 unfolding int_wrap faults_of first_among constant_of first_declaration last_binding meaning_of is_taken with_params are_arguments choice_typing expression_faults call_faults called_faults statement_faults parameter_faults param_of number_of is_uniform step_of kind_in align_in branch_in simdlen_in signature_of same_params same_signatures share_a_name powers said_faults clause_faults entry_faults has_signature repeats_a_name directive_faults same_ctypes length_of initial_faults definition_in costs item_faults lengths cdt nds wds
 first_faults = refl

@@ -128,9 +128,9 @@ abbrev mutual
       statement a s (do_loop l k body c) ∷ (stmt_visits (in_loop a) (inside s) false body ++ visits_of a s role.Value c)
   stmt_visits a s shares (for_loop l k first c third body) = statement a s (for_loop l k first c third body)
       ∷ (stmt_visits a (inside s) true first
-         ++ (optional_visits a (after true (inside s) first) c
-         ++ (stmt_visits a (after true (inside s) first) false third
-         ++ stmt_visits (in_loop a) (inside (after true (inside s) first)) false body)))
+      ++ (optional_visits a (after true (inside s) first) c
+      ++ (stmt_visits a (after true (inside s) first) false third
+      ++ stmt_visits (in_loop a) (inside (after true (inside s) first)) false body)))
   stmt_visits a s shares (break_loop l k) = statement a s (break_loop l k) ∷ []
   stmt_visits a s shares (continue_loop l k) = statement a s (continue_loop l k) ∷ []
   stmt_visits a s shares (return_value l k e) = statement a s (return_value l k e) ∷ optional_visits a s e

@@ -6,6 +6,7 @@
 
 pub mod contexts;
 pub mod faults;
+pub mod laws;
 pub mod lists;
 pub mod typings;
 

@@ -40,8 +40,8 @@ length_typings scope (x ∷ es) = ap suc (length_typings scope es)
 
 pub visits_push : (around : Around) (scope : Scope) (ws : List CType) (es : List Expr) (e : Expr)
     → argument_visits around scope ws (exprs_of (es ++ e ∷ []))
-      ≡ argument_visits around scope ws (exprs_of es)
-        ++ with_role around scope (role.Argument (slice_get ws (length es))) (expr_of e) (parts_of around scope false (expr_of e))
+    ≡ argument_visits around scope ws (exprs_of es)
+    ++ with_role around scope (role.Argument (slice_get ws (length es))) (expr_of e) (parts_of around scope false (expr_of e))
 visits_push around scope [] [] e = append-nil _
 visits_push around scope (w ∷ ws) [] e = append-nil _
 visits_push around scope [] (x ∷ es) e = ap (λ vs. with_role around scope (role.Argument None) (expr_of x) (parts_of around scope false (expr_of x)) ++ vs) (visits_push around scope [] es e) ∙ sym (append_assoc (with_role around scope (role.Argument None) (expr_of x) (parts_of around scope false (expr_of x))) _ _)

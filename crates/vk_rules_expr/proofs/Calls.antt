@@ -41,8 +41,8 @@ module _ (scope : Scope) where
       ∙ ap (λ o. are_arguments ws (typings_of scope (exprs_of (take i es))) && (is_typed t && is_argument o t)) (wanted ∙ ap (slice_get ws) (sym (length_typings scope (take i es) ∙ length-take-le i es (omega (arith, below)))))
       ∙ ap (λ u. are_arguments ws (typings_of scope (exprs_of (take i es))) && (is_typed u && is_argument (slice_get ws (length (typings_of scope (exprs_of (take i es))))) u)) typed
       ∙ sym (ap (λ xs. are_arguments ws (typings_of scope (exprs_of xs))) (grown es i x below is)
-        ∙ ap (are_arguments ws) (typings_push scope (take i es) x)
-        ∙ fits_push ws (typings_of scope (exprs_of (take i es))) (typing_of scope (expr_of x)))
+      ∙ ap (are_arguments ws) (typings_push scope (take i es) x)
+      ∙ fits_push ws (typings_of scope (exprs_of (take i es))) (typing_of scope (expr_of x)))
 
   module _ (unit : Subject) (around : Around) where
     -- what is noted behind one argument more
@@ -54,10 +54,10 @@ module _ (scope : Scope) where
         noted
         ∙ ap (λ n. found unit n (with_role around scope (role.Argument w) (expr_of x) (parts_of around scope false (expr_of x)))) before
         ∙ ap (λ o. found unit (found unit old (argument_visits around scope ws (exprs_of (take i es)))) (with_role around scope (role.Argument o) (expr_of x) (parts_of around scope false (expr_of x))))
-          (wanted ∙ ap (slice_get ws) (sym (length-take-le i es (omega (arith, below)))))
+        (wanted ∙ ap (slice_get ws) (sym (length-take-le i es (omega (arith, below)))))
         ∙ sym (ap (λ xs. found unit old (argument_visits around scope ws (exprs_of xs))) (grown es i x below is)
-          ∙ ap (found unit old) (visits_push around scope ws (take i es) x)
-          ∙ found_append unit old (argument_visits around scope ws (exprs_of (take i es))) _)
+        ∙ ap (found unit old) (visits_push around scope ws (take i es) x)
+        ∙ found_append unit old (argument_visits around scope ws (exprs_of (take i es))) _)
 
     -- what is noted behind a call
     pub call_noted : (addressed : Bool) (id : NameId) (line token : ℕ) (es : Vec Expr) (xs ys : List Expr) (m : Option Meaning) (old now next : Option Fault) → xs ≡ es.items → ys ≡ es.items
@@ -68,11 +68,11 @@ module _ (scope : Scope) where
         noted
         ∙ ap (λ zs. first_among now (called_faults unit.texts around scope line token id (exprs_of zs))) b
         ∙ ap (λ n. first_among n (called_faults unit.texts around scope line token id (exprs_of es.items))) (before
-          ∙ ap (λ zs. found unit old (argument_visits around scope (wanted_types m) (exprs_of zs))) a
-          ∙ ap (λ o. found unit old (argument_visits around scope (wanted_types o) (exprs_of es.items))) means)
+        ∙ ap (λ zs. found unit old (argument_visits around scope (wanted_types m) (exprs_of zs))) a
+        ∙ ap (λ o. found unit old (argument_visits around scope (wanted_types o) (exprs_of es.items))) means)
         ∙ sym (ap (λ e. found unit old (parts_of around scope addressed e)) (call_seen id line token es)
-          ∙ found_append unit old (argument_visits around scope (wanted_types (meaning_of scope id)) (exprs_of es.items)) _
-          ∙ found_one unit _ (called around scope line token id (exprs_of es.items)))
+        ∙ found_append unit old (argument_visits around scope (wanted_types (meaning_of scope id)) (exprs_of es.items)) _
+        ∙ found_one unit _ (called around scope line token id (exprs_of es.items)))
 
   -- the type of a call
   pub call_typed : (id : NameId) (line token : ℕ) (es : Vec Expr) (xs : List Expr) (m : Option Meaning) (t : Typing) → xs ≡ es.items

@@ -22,10 +22,10 @@ use crate::typing::{
 };
 use vk_ast::{Expr, ExprKind, NameId, UnOp};
 use vk_kinds::CType;
-use vk_rules_names::{Known, Note, Scopes, fault_at, fault_with};
 use vk_rules_book::{Around, Role, Typing};
-use vk_unit_rules::UnitRule;
+use vk_rules_names::{Known, Note, Scopes, fault_at, fault_with};
 use vk_types::{Ty, common};
+use vk_unit_rules::UnitRule;
 
 /// In the body of a function with directives.
 pub fn is_simd(around: Around) -> bool
@@ -76,10 +76,7 @@ fn judge_name(
     ensures { note.new.first ≡ first_among note.old.first (name_faults scope.now.names.now around role line token id (meaning_of (scope_of scope.now) id)) }
 {
     let known = scope.meaning(id);
-    note.add(
-        known.is_undeclared(),
-        fault_at(line, token, UnitRule::C8),
-    );
+    note.add(known.is_undeclared(), fault_at(line, token, UnitRule::C8));
     note.add(scope.is_long(id), fault_at(line, token, UnitRule::C16));
     note.add(
         is_simd(around) && known.is_changing(),
@@ -97,10 +94,7 @@ fn judge(scope: &Scopes, around: Around, role: Role, e: &Expr, t: Typing, note: 
     requires { t ≡ typing_of (scope_of scope.now) (expr_of e.now) }
     ensures { note.new.first ≡ first_among note.old.first (expression_faults scope.now.names.now around (scope_of scope.now) role (expr_of e.now)) }
 {
-    note.add(
-        !takes(role, t),
-        fault_at(e.line, e.token, UnitRule::C9),
-    );
+    note.add(!takes(role, t), fault_at(e.line, e.token, UnitRule::C9));
     note.add(
         is_wrong_place(role, e, t),
         fault_at(e.line, e.token, UnitRule::C10),
@@ -151,10 +145,7 @@ fn judge_call(
         is_wrong_call(scope, &known, fits, arguments),
         fault_at(e.line, e.token, UnitRule::C9),
     );
-    note.add(
-        scope.is_long(id),
-        fault_at(e.line, e.token, UnitRule::C16),
-    );
+    note.add(scope.is_long(id), fault_at(e.line, e.token, UnitRule::C16));
     note.add(
         is_simd(around) && known.is_plain_function(),
         fault_with(e.line, e.token, UnitRule::D15, around.directive),
@@ -258,13 +249,7 @@ pub fn judge_in_role(
 // Judges what stands in an expression, and tells its type.
 #[cycle(judging)]
 #[tactic(auto, using(vk_rules_book::proofs::Noting::found_append, vk_rules_book::proofs::Noting::found_one, vk_rules_book::proofs::Noting::found_cons, vk_rules_book::proofs::Noting::found_none))]
-fn judge_parts(
-    scope: &Scopes,
-    around: Around,
-    addressed: bool,
-    e: &Expr,
-    note: &mut Note,
-) -> Typing
+fn judge_parts(scope: &Scopes, around: Around, addressed: bool, e: &Expr, note: &mut Note) -> Typing
     ensures typing { result ≡ typing_of (scope_of scope.now) (expr_of e.now) }
     ensures noted { note.new.first ≡ found (unit_in scope.now) note.old.first (parts_of around (scope_of scope.now) addressed (expr_of e.now)) }
 {

@@ -62,9 +62,10 @@ fn is_pointer_to(to: Ty, written: bool, t: Typing) -> bool
     ensures { result ≡ is_pointer_to to written t }
 {
     match t {
-        Typing::Pointer { to: own, written: own_written } => {
-            same_type(to, own) && (!written || own_written)
-        }
+        Typing::Pointer {
+            to: own,
+            written: own_written,
+        } => { same_type(to, own) && (!written || own_written) }
         _ => false,
     }
 }
@@ -149,13 +150,21 @@ fn moves_right(op: BinOp, left: Typing, right: Typing) -> bool
 pub fn left_role(op: BinOp, left: Typing, right: Typing) -> Role
     ensures { result ≡ left_role op left right }
 {
-    if moves_left(op, left) { Role::Added } else { Role::Value }
+    if moves_left(op, left) {
+        Role::Added
+    } else {
+        Role::Value
+    }
 }
 
 pub fn right_role(op: BinOp, left: Typing, right: Typing) -> Role
     ensures { result ≡ right_role op left right }
 {
-    if moves_right(op, left, right) { Role::Added } else { Role::Value }
+    if moves_right(op, left, right) {
+        Role::Added
+    } else {
+        Role::Value
+    }
 }
 
 fn binary_type(op: BinOp, s: Ty, t: Ty) -> Ty

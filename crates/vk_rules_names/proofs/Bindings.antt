@@ -39,7 +39,7 @@ pub last_here : (bs : List Binding) (n : ℕ) (d : Binding) (id : NameId) (last 
     → named ≡ same_name (slice_index_or bs (n - 1) d).name id → named ≡ true → Some (slice_index_or bs (n - 1) d) ≡ last
 last_here bs n d id last named some within is test yes_named =
     sym (is ∙ last_step bs n d id some within
-      ∙ ap (λ t. option_or (cond t (Some (slice_index_or bs (n - 1) d)) None) (last_binding (take (n - 1) bs) id)) (sym test ∙ yes_named))
+    ∙ ap (λ t. option_or (cond t (Some (slice_index_or bs (n - 1) d)) None) (last_binding (take (n - 1) bs) id)) (sym test ∙ yes_named))
 
 pub last_left : (bs : List Binding) (n : ℕ) (d : Binding) (id : NameId) (last : Option Binding) (named : Bool) → 0 < n → n ≤ length bs → last ≡ last_binding (take n bs) id
     → named ≡ same_name (slice_index_or bs (n - 1) d).name id → named ≡ false → last ≡ last_binding (take (n - 1) bs) id

@@ -146,10 +146,7 @@ impl<'a> Scopes<'a> {
     pub fn is_taken(&self, id: NameId) -> bool
         ensures { result ≡ is_taken (scope_of self.now) id }
     {
-        self.inner
-            .iter()
-            .skip(self.outer)
-            .any(|b| b.name.0 == id.0)
+        self.inner.iter().skip(self.outer).any(|b| b.name.0 == id.0)
     }
 
     // The last parameter or local variable with this name.
@@ -209,7 +206,11 @@ impl<'a> Known<'a> {
         ensures { result ≡ is_changing (meaning_seen self.now) }
     {
         match *self {
-            Known::Object { ty: _, is_array: _, fixed } => !fixed,
+            Known::Object {
+                ty: _,
+                is_array: _,
+                fixed,
+            } => !fixed,
             _ => false,
         }
     }
@@ -218,7 +219,11 @@ impl<'a> Known<'a> {
         ensures { result ≡ is_plain_function (meaning_seen self.now) }
     {
         match *self {
-            Known::Function { result: _, params: _, is_simd } => !is_simd,
+            Known::Function {
+                result: _,
+                params: _,
+                is_simd,
+            } => !is_simd,
             Known::Print => true,
             _ => false,
         }
@@ -228,7 +233,10 @@ impl<'a> Known<'a> {
         ensures { result ≡ is_written_parameter (meaning_seen self.now) }
     {
         match *self {
-            Known::Variable { ctype: CType::Ptr { to: _, written }, fixed: _ } => written,
+            Known::Variable {
+                ctype: CType::Ptr { to: _, written },
+                fixed: _,
+            } => written,
             _ => false,
         }
     }
@@ -244,11 +252,21 @@ impl<'a> Known<'a> {
                 CType::Int(ty) => Typing::Variable { ty, fixed },
                 CType::Ptr { to, written } => Typing::Pointer { to, written },
             },
-            Known::Object { ty, is_array, fixed } => {
+            Known::Object {
+                ty,
+                is_array,
+                fixed,
+            } => {
                 if is_array {
-                    Typing::Pointer { to: ty, written: !fixed }
+                    Typing::Pointer {
+                        to: ty,
+                        written: !fixed,
+                    }
                 } else {
-                    Typing::Cell { ty, written: !fixed }
+                    Typing::Cell {
+                        ty,
+                        written: !fixed,
+                    }
                 }
             }
             Known::Function { .. } | Known::Print => Typing::Function,
@@ -260,7 +278,11 @@ impl<'a> Known<'a> {
         ensures { result ≡ slice_get (wanted_types (meaning_seen self.now)) number }
     {
         match *self {
-            Known::Function { result: _, params, is_simd: _ } => match params.get(number) {
+            Known::Function {
+                result: _,
+                params,
+                is_simd: _,
+            } => match params.get(number) {
                 Some(p) => Some(p.ctype),
                 None => None,
             },
@@ -279,7 +301,11 @@ impl<'a> Known<'a> {
         ensures { result ≡ is_callable (meaning_seen self.now) count }
     {
         match *self {
-            Known::Function { result: _, params, is_simd: _ } => params.len() == count,
+            Known::Function {
+                result: _,
+                params,
+                is_simd: _,
+            } => params.len() == count,
             Known::Print => count == 1,
             _ => false,
         }
@@ -290,7 +316,11 @@ impl<'a> Known<'a> {
         ensures { result ≡ called_typing (meaning_seen self.now) }
     {
         match *self {
-            Known::Function { result, params: _, is_simd: _ } => match result {
+            Known::Function {
+                result,
+                params: _,
+                is_simd: _,
+            } => match result {
                 CType::Void => Typing::Nothing,
                 CType::Int(ty) => Typing::Number(ty),
                 CType::Ptr { .. } => Typing::Untyped,

@@ -35,8 +35,8 @@ module _ (unit : Subject) where
       ∙ ap (λ n. found unit n (all_visits a (block_scope b s) (list_stmts xs))) (before ∙ ap (λ t. first_among old (statement_faults unit.texts a s t)) (seen kind l k ss is))
       ∙ ap (λ zs. found unit (first_among old (statement_faults unit.texts a s (block l k (list_stmts ss.items)))) (all_visits a (block_scope b s) (list_stmts zs))) e
       ∙ sym (ap (λ c. found unit old (stmt_visits a s c (stmt_kind_of kind l k))) which
-        ∙ ap (λ t. found unit old (stmt_visits a s b t)) (seen kind l k ss is)
-        ∙ found_first unit old (statement a s (block l k (list_stmts ss.items))) (all_visits a (block_scope b s) (list_stmts ss.items)))
+      ∙ ap (λ t. found unit old (stmt_visits a s b t)) (seen kind l k ss is)
+      ∙ found_first unit old (statement a s (block l k (list_stmts ss.items))) (all_visits a (block_scope b s) (list_stmts ss.items)))
 
   -- what is noted behind one statement more
   pub next_noted : (a : Around) (s now : Scope) (ss : List Stmt) (i : ℕ) (x : Stmt) (old before next : Option Fault) → i < length ss → x ≡ get_or ss i x

@@ -15,11 +15,11 @@ ghost use Rattle.vk_rules_names.specs.Seen.{scope_at, scope_of, unit_of};
 
 use vk_ast::{Directive, Expr, Memory, NameId, Stmt, StmtKind};
 use vk_kinds::CType;
+use vk_rules_book::{Around, Binding, Role};
 use vk_rules_expr::{is_simd, judge_in_role};
 use vk_rules_names::{Note, Place, Scopes, fault_at, fault_with};
-use vk_rules_book::{Around, Binding, Role};
-use vk_unit_rules::UnitRule;
 use vk_types::Ty;
+use vk_unit_rules::UnitRule;
 
 fn is_void(ctype: CType) -> bool
     ensures { result ≡ is_void ctype }

@@ -17,7 +17,7 @@ judge_parts-returns-in-Call-clause-typing t c =
 pub judge_parts-returns-in-Call-clause-noted : goal.judge_parts-returns-in-Call-clause-noted
 judge_parts-returns-in-Call-clause-noted t c =
     call_noted (scope_of c.args.scope.now) (unit_in c.args.scope.now) c.args.around c.args.addressed _ c.args.e.now.line c.args.e.now.token c.in-Call.arguments _ _ _ _ _ _ c.deref-in-Call.ensures.value c.deref-in-Call-2.ensures.value
-        c.meaning-known.ensures c.judge_arguments-fits.ensures.noted c.judge_call.ensures
+    c.meaning-known.ensures c.judge_arguments-fits.ensures.noted c.judge_call.ensures
     ∙ sym (ap (λ (k : ExprKind). found (unit_in c.args.scope.now) c.args.note.now.first (parts_of c.args.around (scope_of c.args.scope.now) c.args.addressed (kind_of k c.args.e.now.line c.args.e.now.token))) c.in-Call.is)
 
 pub judge_arguments-loop-number-init : goal.judge_arguments-loop-number-init

@@ -39,6 +39,6 @@ pub judge_stmt-returns-in_ok-judge_inside-in-For-clause-scope : goal.judge_stmt-
 judge_stmt-returns-in_ok-judge_inside-in-For-clause-scope t c =
     let mark : c.len-mark.result ≡ length c.args.inner.now.items = search rules in
     ap (λ (bs : List Binding). scope_at c.args.place.now bs c.args.outer)
-      (cut_back true (scope_at c.args.place.now c.args.inner.now.items c.len-mark.result) (scope_at c.args.place.now c.judge_stmt.new.inner.items c.len-mark.result) (stmt_of c.deref-in-For.result.now) _ c.in_ok-judge_stmt-in-For.ensures.scope
-        (c.truncate.ensures.items ∙ ap (take c.len-mark.result) (c.in_ok-judge_inside-in-For.ensures.same ∙ c.in_ok-judge_apart-in-For.ensures.same) ∙ ap (λ n. take n c.judge_stmt.new.inner.items) mark))
+    (cut_back true (scope_at c.args.place.now c.args.inner.now.items c.len-mark.result) (scope_at c.args.place.now c.judge_stmt.new.inner.items c.len-mark.result) (stmt_of c.deref-in-For.result.now) _ c.in_ok-judge_stmt-in-For.ensures.scope
+    (c.truncate.ensures.items ∙ ap (take c.len-mark.result) (c.in_ok-judge_inside-in-For.ensures.same ∙ c.in_ok-judge_apart-in-For.ensures.same) ∙ ap (λ n. take n c.judge_stmt.new.inner.items) mark))
     ∙ sym (ap (λ (k : StmtKind). after c.args.shares (scope_at c.args.place.now c.args.inner.now.items c.args.outer) (stmt_kind_of k c.args.s.now.line c.args.s.now.token)) c.in-For.is)

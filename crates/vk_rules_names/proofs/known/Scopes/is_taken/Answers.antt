@@ -10,4 +10,4 @@ pub returns : goal.returns
 unfolding is_taken
 returns c =
     any_from_yields_List (λ (b : Binding). same_name b.name c.args.id) _ _ c.any.result c.any.ensures.ran
-        (YieldsList-from_skip c.args.self.now.outer (YieldsList-from_slice c.args.self.now.inner.now (ap (λ i. i.rest.now) c.skip.ensures.source ∙ c.iter.ensures.rest)) c.skip.ensures.count) (λ x b q k. search rules)
+    (YieldsList-from_skip c.args.self.now.outer (YieldsList-from_slice c.args.self.now.inner.now (ap (λ i. i.rest.now) c.skip.ensures.source ∙ c.iter.ensures.rest)) c.skip.ensures.count) (λ x b q k. search rules)
