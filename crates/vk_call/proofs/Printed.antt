@@ -3,7 +3,7 @@ use Rattle.std.proofs.Common.{◌≡◌, ℕ, ◌+◌, ◌<◌, List, [], ◌∷
 use Rattle.std.specs.List.{flat_map}
 use Rattle.std.proofs.lemmas.Grind.{flat_map-append}
 use Rattle.std.proofs.lemmas.List.{append-nil, length-map, length-take-le, map-append, take_more}
-use Rattle.vk_mean.specs.Values.{Value}
+use Rattle.vk_numbers.specs.Values.{Value}
 use Rattle.vk_call.specs.Lines.{line, lines_from}
 
 lines_from-more : (k : ℕ) (vs : List Value) (v : Value) → lines_from k (vs ++ v ∷ []) ≡ lines_from k vs ++ line (k + length vs) v

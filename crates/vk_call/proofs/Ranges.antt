@@ -8,7 +8,7 @@ use mir.Syntax.{w128}
 use Rattle.vk_types.specs.declared.types.Ty.{Ty}
 use Rattle.vk_types.specs.declared.types.Ty.TheVariants.{I8, I16, I32, I64, U8, U16, U32, U64}
 use Rattle.vk_types.specs.Numbers.{IsInRange, wrap_number}
-use Rattle.vk_mean.proofs.Numbers.{wrap_in_range, wrap_keeps}
+use Rattle.vk_numbers.proofs.Numbers.{wrap_in_range, wrap_keeps}
 use Rattle.vk_call.specs.Arguments.{if_in_range, is_in_range}
 
 -- what `is_in_range` says

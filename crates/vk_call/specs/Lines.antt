@@ -4,7 +4,7 @@ use Rattle.std.specs.Fmt.{decimal, signed_decimal}
 use Rattle.std.specs.List.{range_with_len}
 use Rattle.vk_types.specs.declared.types.Stop.{Stop}
 use Rattle.vk_types.specs.declared.types.Stop.TheVariants.{Divide, Bounds, Turns}
-use Rattle.vk_mean.specs.Values.{Value, got, halts}
+use Rattle.vk_numbers.specs.Values.{Value, got, halts}
 use Rattle.vk_simple.specs.Form.{FormTree}
 use Rattle.vk_simple.specs.Parameters.{heads_of, returned}
 use Rattle.vk_simple.specs.Variant.{lanes_of}

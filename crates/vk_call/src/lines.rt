@@ -3,7 +3,7 @@
 ghost use Rattle.std.specs.Prelude.{◌≡◌, map, string_bytes, IfOk};
 ghost use Rattle.std.specs.List.{AllByRecursion, flat_map};
 ghost use Rattle.vk_types.specs.Numbers.{IsCanonical, number_of};
-ghost use Rattle.vk_mean.specs.Values.{got};
+ghost use Rattle.vk_numbers.specs.Values.{got};
 ghost use Rattle.vk_call.specs.Lines.{line, lines_from, stop_word};
 
 use std::alloc::{AllocError, Global};

@@ -16,11 +16,12 @@ use Rattle.vk_ast.specs.declared.expressions.UnOp.TheVariants.{Plus, Neg, Not, L
 use Rattle.vk_ast.specs.declared.expressions.BinOp.{BinOp}
 use Rattle.vk_ast.specs.declared.expressions.BinOp.TheVariants.{Add, Sub, Mul, Div, Rem, And, Or, Xor, Shl, Shr, Eq, Ne, Lt, Le, Gt, Ge, LogAnd, LogOr}
 use Rattle.vk_ast.specs.Tree.{Tree, int, name, index, deref, addr, unary, binary, choice, cast, call}
-use Rattle.vk_mean.specs.Values.{Value, got, halts, with_value, value_of_result, converted, chosen, truth_value}
-use Rattle.vk_mean.specs.Types.{type_of, unary_type, binary_type}
-use Rattle.vk_mean.specs.Operators.{in_type, shifted, both, holds, unary_value, binary_value, choice_value}
+use Rattle.vk_numbers.specs.Values.{Value, got, halts, with_value, value_of_result, converted, chosen, truth_value}
+use Rattle.vk_mean.specs.Types.{type_of}
+use Rattle.vk_numbers.specs.Types.{unary_type, binary_type}
+use Rattle.vk_numbers.specs.Operators.{in_type, shifted, both, holds, unary_value, binary_value, choice_value}
 use Rattle.vk_mean.specs.Expressions.{IsNumber, IsOfType, divides, is_total, value_of}
-use Rattle.vk_mean.proofs.Numbers.{wrap_in_range}
+use Rattle.vk_numbers.proofs.Numbers.{wrap_in_range}
 
 -- ---- types
 

@@ -6,9 +6,9 @@ use Rattle.vk_ast.specs.declared.names.NameId.{NameId}
 use Rattle.vk_ast.specs.declared.expressions.BinOp.{BinOp}
 use Rattle.vk_ast.specs.declared.expressions.BinOp.TheVariants.{Div, Rem}
 use Rattle.vk_ast.specs.Tree.{Tree, int, name, index, deref, addr, unary, binary, choice, cast, call}
-use Rattle.vk_mean.specs.Values.{Value, got, halts, with_value, converted}
+use Rattle.vk_numbers.specs.Values.{Value, got, halts, with_value, converted}
 use Rattle.vk_mean.specs.Types.{type_of}
-use Rattle.vk_mean.specs.Operators.{unary_value, binary_value, choice_value}
+use Rattle.vk_numbers.specs.Operators.{unary_value, binary_value, choice_value}
 
 -- Places other than names, addresses and calls are not built yet: they count as 0. A literal's number is one of its type.
 abbrev pub value_of : (NameId → Ty) → (NameId → ℤ) → Tree → Value

@@ -1,4 +1,2 @@
 pub mod Expressions
-pub mod Operators
 pub mod Types
-pub mod Values

@@ -6,7 +6,7 @@ ghost use Rattle.vk_types.specs.Numbers.{IsInRange};
 ghost use Rattle.vk_ast.specs.declared.names.NameId.{NameId};
 ghost use Rattle.vk_ast.specs.declared.expressions.BinOp.TheVariants.{LogAnd, LogOr};
 ghost use Rattle.vk_ast.specs.Tree.{Tree, int, binary, choice};
-ghost use Rattle.vk_mean.specs.Values.{Value, got, halts};
+ghost use Rattle.vk_numbers.specs.Values.{Value, got, halts};
 ghost use Rattle.vk_mean.specs.Types.{type_of};
 ghost use Rattle.vk_mean.specs.Expressions.{IsNumber, IsOfType, is_total, value_of};
 

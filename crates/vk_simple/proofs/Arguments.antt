@@ -15,7 +15,7 @@ use Rattle.vk_ast.specs.Tree.{Tree}
 use Rattle.vk_code.specs.declared.code.Code.{Code}
 use Rattle.vk_code.specs.Code.{types_of}
 use Rattle.vk_code.specs.Lane.{Lane}
-use Rattle.vk_mean.specs.Values.{got}
+use Rattle.vk_numbers.specs.Values.{got}
 use Rattle.vk_simple.specs.declared.emitter.Place.{Place}
 use Rattle.vk_simple.specs.Inner.Emission.{AreRegisters, HasArguments, Returns}
 use Rattle.vk_simple.specs.Inner.Machine.{AreCanonical, AreWords, lane_after, lane_of, numbers_of, word_in}

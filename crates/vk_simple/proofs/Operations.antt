@@ -6,11 +6,11 @@ use Rattle.vk_types.specs.declared.types.Op1.{Op1}
 use Rattle.vk_types.specs.declared.types.Op2.{Op2}
 use Rattle.vk_types.specs.declared.types.Op2.TheVariants.{Eq}
 use Rattle.vk_types.specs.Operators.{op1_number}
-use Rattle.vk_mean.specs.Operators.{in_type, shifted}
+use Rattle.vk_numbers.specs.Operators.{in_type, shifted}
 use Rattle.vk_types.specs.Numbers.{number_of, wrap_number}
 use Rattle.vk_kinds.specs.declared.heads.CType.TheVariants.{Int}
 use Rattle.vk_code.specs.Lane.{Lane}
-use Rattle.vk_mean.specs.Values.{Value, got, converted}
+use Rattle.vk_numbers.specs.Values.{Value, got, converted}
 use Rattle.vk_simple.specs.declared.emitter.Emitter.{Emitter}
 use Rattle.vk_simple.specs.declared.emitter.Place.{Place}
 use Rattle.vk_simple.specs.Inner.Emission.{Appends, AppliesOne, AppliesTwo, Gives, Holds, IsFilled, IsPlace, number_in, operates}

@@ -15,8 +15,8 @@ use Rattle.vk_code.specs.declared.instruction.Operation.TheVariants.{Const, Conv
 use Rattle.vk_code.specs.Instruction.{IsArithmetic, IsComparison, operation_of}
 use Rattle.vk_code.specs.Code.{HasRightType, HasType, IsPromoted}
 use Rattle.vk_code.specs.Lane.{Lane, with_reg, with_result}
-use Rattle.vk_mean.specs.Values.{got, converted, value_of_result}
-use Rattle.vk_mean.proofs.Numbers.{number_of-word, op1_in_range, op2_in_range, wrap_in_range, wrap_keeps}
+use Rattle.vk_numbers.specs.Values.{got, converted, value_of_result}
+use Rattle.vk_numbers.proofs.Numbers.{number_of-word, op1_in_range, op2_in_range, wrap_in_range, wrap_keeps}
 use Rattle.vk_simple.specs.declared.emitter.Emitter.{Emitter}
 use Rattle.vk_simple.specs.declared.emitter.Place.{Place}
 use Rattle.vk_simple.specs.Inner.Emission.{Appends, AppliesOne, AppliesTwo, Gives, Holds, IsPlace, IsPlainOperator, IsShift, Pushes, number_in, operates}

@@ -22,7 +22,7 @@ use Rattle.vk_code.specs.declared.instruction.Operation.TheVariants.{Const, Conv
 use Rattle.vk_code.specs.Instruction.{operation_of}
 use Rattle.vk_code.specs.Code.{HasRightType, HasType, IsValidInstr, IsValidOperation, integer_of, types_of}
 use Rattle.vk_code.specs.Lane.{Lane, act, act_if_some, run, step, with_reg, with_result}
-use Rattle.vk_mean.proofs.Numbers.{word_of-number}
+use Rattle.vk_numbers.proofs.Numbers.{word_of-number}
 use Rattle.vk_simple.specs.Inner.Machine.{AreCanonical, HasSomeType, lane_of, target_of, word_in}
 
 pub type_inside : (regs : List CType) (r : ℕ) (t : Ty) → HasType regs r t → r < length regs

@@ -7,9 +7,9 @@ ghost use Rattle.vk_types.specs.Numbers.{IsCanonical, number_of, wrap_number};
 ghost use Rattle.vk_types.specs.Operators.{op1_number};
 ghost use Rattle.vk_code.specs.Code.{IsPromoted};
 ghost use Rattle.vk_code.specs.Instruction.{IsComparison};
-ghost use Rattle.vk_mean.specs.Values.{got, converted};
-ghost use Rattle.vk_mean.specs.Types.{binary_type, unary_type};
-ghost use Rattle.vk_mean.specs.Operators.{binary_value, in_type, shifted, unary_value};
+ghost use Rattle.vk_numbers.specs.Values.{got, converted};
+ghost use Rattle.vk_numbers.specs.Types.{binary_type, unary_type};
+ghost use Rattle.vk_numbers.specs.Operators.{binary_value, in_type, shifted, unary_value};
 ghost use Rattle.vk_simple.specs.Inner.Emission.{Appends, AppliesOne, AppliesTwo, Gives, IsPlace, IsPlainOperator, IsShift, Pushes, operates};
 ghost use Rattle.vk_simple.specs.Parameters.{is_simple_operator};
 

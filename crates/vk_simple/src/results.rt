@@ -4,7 +4,7 @@ ghost use Rattle.std.specs.Prelude.{◌≡◌, ◌≤◌, length, map, IfOk, IsT
 ghost use Rattle.std.specs.List.{AllByRecursion};
 ghost use Rattle.vk_types.specs.Numbers.{number_of, IsCanonical};
 ghost use Rattle.vk_ast.specs.Tree.{expr_of, nodes_of};
-ghost use Rattle.vk_mean.specs.Values.{got};
+ghost use Rattle.vk_numbers.specs.Values.{got};
 ghost use Rattle.vk_simple.specs.Inner.Emission.{AreRegisters};
 ghost use Rattle.vk_simple.specs.Inner.Machine.{AreWords, numbers_of};
 ghost use Rattle.vk_simple.specs.Form.{CanCompile};

@@ -15,7 +15,7 @@ use Rattle.vk_code.specs.declared.instruction.Instr.{Instr}
 use Rattle.vk_code.specs.declared.code.Code.{Code}
 use Rattle.vk_code.specs.Code.{HasType, IsValidInstr, types_of}
 use Rattle.vk_code.specs.Lane.{Lane, is_live, run}
-use Rattle.vk_mean.specs.Values.{Value, got, with_value, converted, value_of_result}
+use Rattle.vk_numbers.specs.Values.{Value, got, with_value, converted, value_of_result}
 use Rattle.vk_mean.specs.Expressions.{value_of}
 use Rattle.vk_simple.specs.declared.emitter.Emitter.{Emitter}
 use Rattle.vk_simple.specs.declared.emitter.Place.{Place}

@@ -5,7 +5,7 @@ use Rattle.std.proofs.lemmas.Int.{to_z-of_z}
 use Rattle.vk_types.specs.declared.types.Word.{Word}
 use mir.Syntax.{w128}
 use Rattle.vk_types.specs.Numbers.{IsCanonical, number_of, wrap_number}
-use Rattle.vk_mean.proofs.Numbers.{wrap_keeps}
+use Rattle.vk_numbers.proofs.Numbers.{wrap_keeps}
 use Rattle.vk_call.specs.Arguments.{value_of_lane}
 use Rattle.vk_call.specs.Inner.Rows.{word_in}
 use Rattle.vk_call.proofs.Rows.{words_more}

@@ -2,7 +2,7 @@
 use Rattle.std.proofs.Common.{string_bytes}
 use Rattle.vk_types.specs.declared.types.Word.{Word}
 use Rattle.vk_types.specs.Numbers.{number_of}
-use Rattle.vk_mean.specs.Values.{got}
+use Rattle.vk_numbers.specs.Values.{got}
 use Rattle.vk_call.proofs.Printed.{lines_more}
 use Rattle.vk_call.proofs.lines.lines_of.Goals as goal
 

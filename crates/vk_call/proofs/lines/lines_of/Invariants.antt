@@ -2,7 +2,7 @@
 use Rattle.std.proofs.Common.{◌≡◌, map, string_bytes, take}
 use Rattle.std.specs.List.{flat_map}
 use Rattle.vk_types.specs.Numbers.{number_of}
-use Rattle.vk_mean.specs.Values.{got}
+use Rattle.vk_numbers.specs.Values.{got}
 use Rattle.vk_call.specs.Lines.{lines_from}
 use Rattle.vk_call.proofs.lines.lines_of.Given as goal
 

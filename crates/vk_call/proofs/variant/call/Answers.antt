@@ -7,7 +7,7 @@ use Rattle.vk_types.specs.declared.types.Word.{Word}
 use Rattle.vk_types.specs.Numbers.{number_of}
 use Rattle.vk_kinds.specs.declared.heads.CType.{CType}
 use Rattle.vk_ast.specs.Tree.{expr_of}
-use Rattle.vk_mean.specs.Values.{Value, got}
+use Rattle.vk_numbers.specs.Values.{Value, got}
 use Rattle.vk_simple.specs.Inner.Machine.{AreWords, numbers_of}
 use Rattle.vk_simple.specs.Parameters.{heads_of, returned}
 use Rattle.vk_simple.specs.Variant.{lanes_of}

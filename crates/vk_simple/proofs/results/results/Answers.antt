@@ -6,7 +6,7 @@ use Rattle.std.proofs.lemmas.List.{get_or_default}
 use Rattle.vk_types.specs.declared.types.Word.{Word}
 use Rattle.vk_types.specs.Numbers.{IsCanonical, number_of}
 use Rattle.vk_ast.specs.Tree.{expr_of}
-use Rattle.vk_mean.specs.Values.{got}
+use Rattle.vk_numbers.specs.Values.{got}
 use Rattle.vk_simple.specs.Inner.Emission.{Returns}
 use Rattle.vk_simple.specs.Inner.Machine.{AreWords, numbers_of}
 use Rattle.vk_simple.specs.Parameters.{heads_of, returned}

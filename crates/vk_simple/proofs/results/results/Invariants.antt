@@ -5,7 +5,7 @@ use Rattle.std.specs.Global.{Vec}
 use Rattle.vk_types.specs.declared.types.Word.{Word}
 use Rattle.vk_types.specs.Numbers.{IsCanonical, number_of}
 use Rattle.vk_ast.specs.Tree.{expr_of}
-use Rattle.vk_mean.specs.Values.{got}
+use Rattle.vk_numbers.specs.Values.{got}
 use Rattle.vk_simple.specs.Inner.Machine.{numbers_of}
 use Rattle.vk_simple.specs.Parameters.{heads_of, returned}
 use Rattle.vk_simple.proofs.results.results.Given as goal

@@ -1,0 +1,5 @@
+pub mod Constants
+pub mod Laws
+pub mod Operators
+pub mod Types
+pub mod Values

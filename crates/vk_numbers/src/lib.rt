@@ -1,0 +1,6 @@
+//! What the operators of C give on whole numbers: types, values and stops, and the constants of a unit.
+//!
+//! Rules of a unit and the meaning of programs stand on these definitions.
+#![tactic(auto)]
+
+pub mod laws;

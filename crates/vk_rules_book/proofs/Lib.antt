@@ -1,0 +1,3 @@
+mod Examples
+mod First
+pub mod Noting

@@ -1,0 +1,12 @@
+pub mod Faults
+pub mod Places
+pub mod Scopes
+pub mod Typings
+pub mod Visits
+pub mod Expressions
+pub mod Statements
+pub mod Signatures
+pub mod Directives
+pub mod Items
+pub mod Rules
+pub mod Noting
