@@ -11,8 +11,8 @@ ghost use Rattle.vk_simple.specs.Parameters.{is_simple, is_simple_operator, plac
 
 use crate::compile::is_named;
 use vk_ast::{
-    BinOp, Clause, ClauseKind, Directive, Expr, ExprKind, Function, Item, MAX_NODES, NameId, NameTable,
-    ParamDecl, Stmt, StmtKind, Unit, function_nodes,
+    BinOp, Clause, ClauseKind, Directive, Expr, ExprKind, Function, Item, MAX_NODES, NameId,
+    NameTable, ParamDecl, Stmt, StmtKind, Unit, function_nodes,
 };
 use vk_kinds::{MAX_IDENTIFIER_BYTES, MAX_PARAMETERS};
 use vk_types::Ty;

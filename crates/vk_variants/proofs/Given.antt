@@ -39,12 +39,12 @@ quotient register n low high (inr (inr (inr e))) = subst (λ k. (1 ≤ register 
 
 x86_fit : (branch : Branch) (simdlen : Option ℕ) (n : ℕ) → IsSimdlen simdlen → (n ≡ 1) ⊎ ((n ≡ 2) ⊎ ((n ≡ 4) ⊎ (n ≡ 8)))
     → AllByRecursion IsFront (flat_map (variants_with B branch) (lens_with simdlen (Fixed (16 / n) ∷ [])) ++ (flat_map (variants_with C branch) (lens_with simdlen (Fixed (16 / n) ∷ []))
-        ++ (flat_map (variants_with D branch) (lens_with simdlen (Fixed (32 / n) ∷ [])) ++ (flat_map (variants_with E branch) (lens_with simdlen (Fixed (64 / n) ∷ [])) ++ []))))
+    ++ (flat_map (variants_with D branch) (lens_with simdlen (Fixed (32 / n) ∷ [])) ++ (flat_map (variants_with E branch) (lens_with simdlen (Fixed (64 / n) ∷ [])) ++ []))))
 x86_fit branch simdlen n lanes size =
     all_append IsFront _ _ (one_length B branch simdlen (16 / n) lanes (quotient 16 n (omega arith) (omega arith) size))
-      (all_append IsFront _ _ (one_length C branch simdlen (16 / n) lanes (quotient 16 n (omega arith) (omega arith) size))
-        (all_append IsFront _ _ (one_length D branch simdlen (32 / n) lanes (quotient 32 n (omega arith) (omega arith) size))
-          (all_append IsFront _ _ (one_length E branch simdlen (64 / n) lanes (quotient 64 n (omega arith) (omega arith) size)) tt)))
+    (all_append IsFront _ _ (one_length C branch simdlen (16 / n) lanes (quotient 16 n (omega arith) (omega arith) size))
+    (all_append IsFront _ _ (one_length D branch simdlen (32 / n) lanes (quotient 32 n (omega arith) (omega arith) size))
+    (all_append IsFront _ _ (one_length E branch simdlen (64 / n) lanes (quotient 64 n (omega arith) (omega arith) size)) tt)))
 
 -- Advanced SIMD
 n_fit : (branch : Branch) (simdlen : Option ℕ) (n : ℕ) → IsSimdlen simdlen → (n ≡ 1) ⊎ ((n ≡ 2) ⊎ ((n ≡ 4) ⊎ (n ≡ 8)))

@@ -38,7 +38,7 @@ pub one_fits : (t : Target) (scalar : List ℕ) (h : HeadTypes) (s : SignatureTr
     → IsName (name_with scalar s.params (slice_index_or fronts i d))
 one_fits t scalar h s fronts i d spelled named are inside =
     All-from_recursion (λ f. IsName (name_with scalar s.params f)) fronts
-      (subst (λ fs. AllByRecursion (λ f. IsName (name_with scalar s.params f)) fs) (sym are) (given_fit t scalar h s spelled named)) i d inside
+    (subst (λ fs. AllByRecursion (λ f. IsName (name_with scalar s.params f)) fs) (sym are) (given_fit t scalar h s spelled named)) i d inside
 
 pub cut_again : (old middle new more : List (List ℕ)) (len : ℕ) → len ≡ length old → middle ≡ old ++ more → new ≡ take len middle → new ≡ old
 cut_again old middle new more len is grown cut = cut ∙ ap (λ n. take n middle) is ∙ ap (take (length old)) grown ∙ take-append_seam old more
