@@ -1,6 +1,6 @@
 // What the definitions of values mean, as laws.
 
-ghost use Rattle.std.specs.Prelude.{◌≡◌, ◌≢◌, true, false, ℤ, pos};
+ghost use Rattle.std.specs.Prelude.{◌≡◌, ◌≢◌, false, ℤ, pos};
 ghost use Rattle.vk_types.specs.declared.types.Ty.{Ty};
 ghost use Rattle.vk_types.specs.declared.types.Stop.{Stop};
 ghost use Rattle.vk_types.specs.Numbers.{wrap_number};

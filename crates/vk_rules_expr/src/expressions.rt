@@ -1,19 +1,16 @@
 // The rules on expressions: C8, C9, C10, C16, D15 and D16.
 
-ghost use Rattle.std.specs.Prelude.{◌≡◌, ◌∷◌, ◌&&◌, [], map, length, List};
+ghost use Rattle.std.specs.Prelude.{◌≡◌, ◌&&◌};
 ghost use Rattle.vk_ast.specs.Tree.{expr_of, exprs_of};
-ghost use Rattle.vk_ast.specs.Units.{item_of, ItemTree};
-ghost use Rattle.vk_types.specs.Conversions.{common_type};
 ghost use Rattle.vk_numbers.specs.Types.{unary_type};
 ghost use Rattle.vk_rules_book.specs.declared.typings.Typing.{Typing};
 ghost use Rattle.vk_rules_book.specs.declared.typings.Typing.TheVariants.{Number, Cell};
 ghost use Rattle.vk_rules_book.specs.Faults.{first_among};
-ghost use Rattle.vk_rules_book.specs.Places.{line_of, token_of};
-ghost use Rattle.vk_rules_book.specs.Expressions.{call_faults, called_faults, is_wrong_call, expression_faults, has_form_of_place, is_simd, is_wrong_place, name_faults, own_faults};
+ghost use Rattle.vk_rules_book.specs.Expressions.{call_faults, called_faults, is_wrong_call, expression_faults, has_form_of_place, is_simd, is_wrong_place, name_faults};
 ghost use Rattle.vk_rules_book.specs.Noting.{found};
 ghost use Rattle.vk_rules_book.specs.Scopes.{meaning_of};
 ghost use Rattle.vk_rules_book.specs.Typings.{are_arguments, is_argument, is_typed, call_typing, typing_of, typings_of, wanted_types, pointed_typing, element_typing, unary_typing, cast_typing, choice_typing};
-ghost use Rattle.vk_rules_book.specs.Visits.{argument_visits, is_zero, parts_of, visits_of, with_role};
+ghost use Rattle.vk_rules_book.specs.Visits.{argument_visits, is_zero, parts_of, with_role};
 ghost use Rattle.vk_rules_names.specs.Seen.{meaning_seen, scope_of, unit_in};
 
 use crate::typing::{

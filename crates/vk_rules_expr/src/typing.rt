@@ -3,7 +3,7 @@
 ghost use Rattle.std.specs.Prelude.{◌≡◌};
 ghost use Rattle.vk_numbers.specs.Types.{unary_type, binary_type};
 ghost use Rattle.vk_rules_book.specs.Expressions.{lets_written, may_be_assigned, may_have_address};
-ghost use Rattle.vk_rules_book.specs.Typings.{binary_typing, is_argument, is_number, is_pointer, is_pointer_to, is_plus, is_sum, is_typed, left_role, moves_left, moves_right, number_type, right_role, takes, takes_typed, with_address, same_type};
+ghost use Rattle.vk_rules_book.specs.Typings.{binary_typing, is_argument, is_number, is_pointer, is_pointer_to, is_plus, is_sum, is_typed, left_role, moves_left, moves_right, number_type, right_role, takes, with_address, same_type};
 
 use vk_ast::{BinOp, UnOp};
 use vk_kinds::CType;

@@ -1,24 +1,20 @@
 // The rules on statements: C8, C14, C15, C16, D12 and D15, and those on the expressions in them.
 
-ghost use Rattle.std.specs.Prelude.{◌≡◌, ◌||◌, false, ◌∷◌, ◌++◌, [], map, length, take, List, Option, OnErr, OnOk};
+ghost use Rattle.std.specs.Prelude.{◌≡◌, ◌||◌, false, length, Option, OnOk};
 ghost use Rattle.std.specs.Option.{option_map};
-ghost use Rattle.vk_ast.specs.Directives.{directive_of};
 ghost use Rattle.vk_ast.specs.Statements.{list_stmts, stmt_of};
 ghost use Rattle.vk_ast.specs.Tree.{expr_of};
 ghost use Rattle.vk_rules_book.specs.Faults.{first_among};
 ghost use Rattle.vk_rules_book.specs.Noting.{found};
-ghost use Rattle.vk_rules_book.specs.Statements.{declared_faults, is_redeclared, is_void, is_wrong_return, statement_faults};
-ghost use Rattle.vk_rules_book.specs.Typings.{typing_of};
+ghost use Rattle.vk_rules_book.specs.Statements.{declared_faults, is_void, is_wrong_return, statement_faults};
 ghost use Rattle.vk_rules_book.specs.Visits.{after, after_all, all_visits, in_loop, optional_visits, stmt_visits, visits_of};
-ghost use Rattle.vk_rules_book.specs.Scopes.{inside};
 ghost use Rattle.vk_rules_names.specs.Seen.{scope_at, scope_of, unit_of};
 
-use vk_ast::{Directive, Expr, Memory, NameId, Stmt, StmtKind};
+use vk_ast::{Expr, Memory, NameId, Stmt, StmtKind};
 use vk_kinds::CType;
 use vk_rules_book::{Around, Binding, Role};
 use vk_rules_expr::{is_simd, judge_in_role};
 use vk_rules_names::{Note, Place, Scopes, fault_at, fault_with};
-use vk_types::Ty;
 use vk_unit_rules::UnitRule;
 
 fn is_void(ctype: CType) -> bool
