@@ -98,11 +98,12 @@ pub struct Length {
 }
 
 impl Default for Length {
+    /// One lane with the letter `b`, without a mask.
     fn default() -> Length {
         Length {
             isa: Isa::B,
             masked: false,
-            len: Len::Scalable,
+            len: Len::Fixed(1),
         }
     }
 }

@@ -5,6 +5,11 @@
 
 pub mod heads;
 pub mod kinds;
+pub mod lanes;
+pub mod laws;
+pub mod sizes;
 
 pub use heads::{CType, Head, Types};
 pub use kinds::{Branch, Isa, Kind, Len, Length, Lengths, Param, Params, Signature, Step, Target};
+pub use lanes::{has_sve_width, lanes_at, lengths};
+pub use sizes::{cdt, nds, wds};

@@ -25,7 +25,7 @@ use vk_grammar_expr::{Prefix, Sym, SymKind};
 use vk_tokens::Mark;
 
 // Where no level may stand: too deep where an expression begins.
-#[tactic(auto, unfolding(vk_grammar_expr::specs::Reading::nothing))]
+#[tactic(auto, unfolding(vk_grammar_expr::specs::Inner::Reading::nothing))]
 fn nothing(syms: &[Sym]) -> Read<'_, High>
     ensures value { Reads result (spec.nothing syms.now) }
     ensures none { IfOk result (λ _. ⊥) }
@@ -40,7 +40,7 @@ fn nothing(syms: &[Sym]) -> Read<'_, High>
 
 /// A whole `cond`, of a height of at most `below`.
 #[cycle(reading)]
-#[tactic(auto, unfolding(vk_grammar_expr::specs::Reading::expression))]
+#[tactic(auto, unfolding(vk_grammar_expr::specs::Inner::Reading::expression))]
 pub(crate) fn expression(alloc: Global, below: u32, syms: &[Sym]) -> Read<'_, High>
     requires { below ≤ 64 }
     ensures value { (turns : ℕ) → length syms.now < turns → Reads result (spec.expression turns below full syms.now) }
@@ -57,7 +57,7 @@ pub(crate) fn expression(alloc: Global, below: u32, syms: &[Sym]) -> Read<'_, Hi
 
 /// An operand of an operator of the level above, of a height of at most `below`.
 #[cycle(reading)]
-#[tactic(auto, unfolding(vk_grammar_expr::specs::Reading::expression))]
+#[tactic(auto, unfolding(vk_grammar_expr::specs::Inner::Reading::expression))]
 pub(crate) fn operand(alloc: Global, below: u32, n: u32, syms: &[Sym]) -> Read<'_, High>
     requires below { below ≤ 64 }
     requires level { n ≤ 10 }
@@ -75,7 +75,7 @@ pub(crate) fn operand(alloc: Global, below: u32, n: u32, syms: &[Sym]) -> Read<'
 
 // The arguments before a `)`.
 #[cycle(reading)]
-#[tactic(auto, unfolding(vk_grammar_expr::specs::Reading::arguments))]
+#[tactic(auto, unfolding(vk_grammar_expr::specs::Inner::Reading::arguments))]
 fn arguments(alloc: Global, below: u32, syms: &[Sym]) -> Read<'_, Arguments>
     requires { below < 64 }
     ensures value { (turns : ℕ) → length syms.now < turns
@@ -94,7 +94,7 @@ fn arguments(alloc: Global, below: u32, syms: &[Sym]) -> Read<'_, Arguments>
 }
 
 #[cycle(reading)]
-#[tactic(auto, unfolding(vk_grammar_expr::specs::Reading::some_arguments))]
+#[tactic(auto, unfolding(vk_grammar_expr::specs::Inner::Reading::some_arguments))]
 fn some_arguments(alloc: Global, below: u32, syms: &[Sym]) -> Read<'_, Arguments>
     requires { below < 64 }
     ensures value { (turns : ℕ) → length syms.now < turns
@@ -120,7 +120,7 @@ fn some_arguments(alloc: Global, below: u32, syms: &[Sym]) -> Read<'_, Arguments
 
 // An argument behind a comma.
 #[cycle(reading)]
-#[tactic(auto, unfolding(vk_grammar_expr::specs::Reading::later_argument))]
+#[tactic(auto, unfolding(vk_grammar_expr::specs::Inner::Reading::later_argument))]
 fn later_argument(alloc: Global, below: u32, syms: &[Sym]) -> Read<'_, High>
     requires { below < 64 }
     ensures value { (turns : ℕ) → length syms.now < turns → Reads result (spec.later_argument below turns (spec.expression turns below) syms.now) }
@@ -133,7 +133,7 @@ fn later_argument(alloc: Global, below: u32, syms: &[Sym]) -> Read<'_, High>
 
 // A call, behind its name, at the `(`.
 #[cycle(reading)]
-#[tactic(auto, unfolding(vk_grammar_expr::specs::Reading::call_of))]
+#[tactic(auto, unfolding(vk_grammar_expr::specs::Inner::Reading::call_of))]
 fn call_of(alloc: Global, below: u32, first: Sym, id: NameId, syms: &[Sym]) -> Read<'_, High>
     requires { below < 64 }
     ensures value { (turns : ℕ) → length syms.now < turns → Reads result (spec.call_of below turns (spec.expression turns below) first.line first.at id syms.now) }
@@ -149,7 +149,7 @@ fn call_of(alloc: Global, below: u32, first: Sym, id: NameId, syms: &[Sym]) -> R
 
 // Behind a name: a call, or the name alone.
 #[cycle(reading)]
-#[tactic(auto, unfolding(vk_grammar_expr::specs::Reading::named))]
+#[tactic(auto, unfolding(vk_grammar_expr::specs::Inner::Reading::named))]
 fn named(alloc: Global, below: u32, first: Sym, id: NameId, syms: &[Sym]) -> Read<'_, High>
     requires { below < 64 }
     ensures value { (turns : ℕ) → length syms.now < turns → Reads result (spec.named below turns (spec.expression turns below) id first syms.now) }
@@ -166,7 +166,7 @@ fn named(alloc: Global, below: u32, first: Sym, id: NameId, syms: &[Sym]) -> Rea
 
 // A literal, a name or a call.
 #[cycle(reading)]
-#[tactic(auto, unfolding(vk_grammar_expr::specs::Reading::atom))]
+#[tactic(auto, unfolding(vk_grammar_expr::specs::Inner::Reading::atom))]
 fn atom(alloc: Global, below: u32, syms: &[Sym]) -> Read<'_, High>
     requires { below < 64 }
     ensures value { (turns : ℕ) → length syms.now < turns → Reads result (spec.atom below turns (spec.expression turns below) syms.now) }
@@ -189,7 +189,7 @@ fn atom(alloc: Global, below: u32, syms: &[Sym]) -> Read<'_, High>
 
 // The subscripts behind an operand that begins at `first`.
 #[cycle(reading)]
-#[tactic(auto, unfolding(vk_grammar_expr::specs::Reading::subscripts, vk_grammar_expr::specs::Reading::subscript_step, vk_grammar_expr::specs::Reading::subscript))]
+#[tactic(auto, unfolding(vk_grammar_expr::specs::Inner::Reading::subscripts, vk_grammar_expr::specs::Inner::Reading::subscript_step, vk_grammar_expr::specs::Inner::Reading::subscript))]
 fn subscripts(alloc: Global, below: u32, first: Start, base: High, syms: &[Sym]) -> Read<'_, High>
     requires below { below < 64 }
     requires low { 1 ≤ base.height }
@@ -215,7 +215,7 @@ fn subscripts(alloc: Global, below: u32, first: Start, base: High, syms: &[Sym])
 
 // A primary expression other than one in parentheses, and its subscripts.
 #[cycle(reading)]
-#[tactic(auto, unfolding(vk_grammar_expr::specs::Reading::post))]
+#[tactic(auto, unfolding(vk_grammar_expr::specs::Inner::Reading::post))]
 fn post(alloc: Global, below: u32, syms: &[Sym]) -> Read<'_, High>
     requires { below < 64 }
     ensures value { (turns : ℕ) → length syms.now < turns → Reads result (spec.post below turns (spec.expression turns below) syms.now) }
@@ -230,7 +230,7 @@ fn post(alloc: Global, below: u32, syms: &[Sym]) -> Read<'_, High>
 
 // An expression in parentheses, behind the `(`.
 #[cycle(reading)]
-#[tactic(auto, unfolding(vk_grammar_expr::specs::Reading::group))]
+#[tactic(auto, unfolding(vk_grammar_expr::specs::Inner::Reading::group))]
 fn group(alloc: Global, below: u32, syms: &[Sym]) -> Read<'_, High>
     requires { below < 64 }
     ensures value { (turns : ℕ) → length syms.now < turns → Reads result (spec.group below turns (spec.expression turns below) syms.now) }
@@ -251,7 +251,7 @@ fn group(alloc: Global, below: u32, syms: &[Sym]) -> Read<'_, High>
 
 // A cast, behind its `(`, which is `first`.
 #[cycle(reading)]
-#[tactic(auto, unfolding(vk_grammar_expr::specs::Reading::cast_of))]
+#[tactic(auto, unfolding(vk_grammar_expr::specs::Inner::Reading::cast_of))]
 fn cast_of(alloc: Global, below: u32, first: Sym, syms: &[Sym]) -> Read<'_, High>
     requires { below < 64 }
     ensures value { (turns : ℕ) → length syms.now < turns → Reads result (spec.cast_of below turns (spec.expression turns below) first.line first.at syms.now) }
@@ -267,7 +267,7 @@ fn cast_of(alloc: Global, below: u32, first: Sym, syms: &[Sym]) -> Read<'_, High
 
 // Behind a `(`, which is `first`: a cast, or an expression in parentheses and its subscripts.
 #[cycle(reading)]
-#[tactic(auto, unfolding(vk_grammar_expr::specs::Reading::behind_paren))]
+#[tactic(auto, unfolding(vk_grammar_expr::specs::Inner::Reading::behind_paren))]
 fn behind_paren(alloc: Global, below: u32, first: Sym, syms: &[Sym]) -> Read<'_, High>
     requires { below < 64 }
     ensures value { (turns : ℕ) → length syms.now < turns → Reads result (spec.behind_paren below turns (spec.expression turns below) first syms.now) }
@@ -284,7 +284,7 @@ fn behind_paren(alloc: Global, below: u32, first: Sym, syms: &[Sym]) -> Read<'_,
 
 // At a `(`.
 #[cycle(reading)]
-#[tactic(auto, unfolding(vk_grammar_expr::specs::Reading::paren))]
+#[tactic(auto, unfolding(vk_grammar_expr::specs::Inner::Reading::paren))]
 fn paren(alloc: Global, below: u32, syms: &[Sym]) -> Read<'_, High>
     requires { below < 64 }
     ensures value { (turns : ℕ) → length syms.now < turns → Reads result (spec.paren below turns (spec.expression turns below) syms.now) }
@@ -301,7 +301,7 @@ fn paren(alloc: Global, below: u32, syms: &[Sym]) -> Read<'_, High>
 
 // At a sign before an operand.
 #[cycle(reading)]
-#[tactic(auto, unfolding(vk_grammar_expr::specs::Reading::prefix_sign, vk_grammar_expr::specs::Reading::prefix_operand))]
+#[tactic(auto, unfolding(vk_grammar_expr::specs::Inner::Reading::prefix_sign, vk_grammar_expr::specs::Inner::Reading::prefix_operand))]
 fn prefix_sign(alloc: Global, below: u32, prefix: Prefix, syms: &[Sym]) -> Read<'_, High>
     requires { below < 64 }
     ensures value { (turns : ℕ) → length syms.now < turns → Reads result (spec.prefix_sign below turns (spec.expression turns below) prefix syms.now) }
@@ -319,7 +319,7 @@ fn prefix_sign(alloc: Global, below: u32, prefix: Prefix, syms: &[Sym]) -> Read<
 
 // Signs before an operand, casts, and what may stand behind them.
 #[cycle(reading)]
-#[tactic(auto, unfolding(vk_grammar_expr::specs::Reading::unaries))]
+#[tactic(auto, unfolding(vk_grammar_expr::specs::Inner::Reading::unaries))]
 fn unary(alloc: Global, below: u32, syms: &[Sym]) -> Read<'_, High>
     requires { below < 64 }
     ensures value { (turns : ℕ) → length syms.now < turns → Reads result (spec.unaries below turns (spec.expression turns below) syms.now) }
@@ -339,7 +339,7 @@ fn unary(alloc: Global, below: u32, syms: &[Sym]) -> Read<'_, High>
 
 // The operators of the level above `n` behind an operand that begins at `first`, each with its right operand.
 #[cycle(reading)]
-#[tactic(auto, unfolding(vk_grammar_expr::specs::Reading::operators, vk_grammar_expr::specs::Reading::operator_step, vk_grammar_expr::specs::Reading::right_operand))]
+#[tactic(auto, unfolding(vk_grammar_expr::specs::Inner::Reading::operators, vk_grammar_expr::specs::Inner::Reading::operator_step, vk_grammar_expr::specs::Inner::Reading::right_operand))]
 fn operators(
     alloc: Global,
     below: u32,
@@ -372,7 +372,7 @@ fn operators(
 
 // An expression of the binary level `n`: 0 for `unary`, 10 for `||`.
 #[cycle(reading)]
-#[tactic(auto, unfolding(vk_grammar_expr::specs::Reading::levels))]
+#[tactic(auto, unfolding(vk_grammar_expr::specs::Inner::Reading::levels))]
 fn level(alloc: Global, below: u32, n: u32, syms: &[Sym]) -> Read<'_, High>
     requires below { below < 64 }
     requires level { n ≤ 10 }
@@ -391,7 +391,7 @@ fn level(alloc: Global, below: u32, n: u32, syms: &[Sym]) -> Read<'_, High>
 
 // The `?` behind a condition that begins at `first`, and both branches.
 #[cycle(reading)]
-#[tactic(auto, unfolding(vk_grammar_expr::specs::Reading::branches))]
+#[tactic(auto, unfolding(vk_grammar_expr::specs::Inner::Reading::branches))]
 fn branches(
     alloc: Global,
     below: u32,
@@ -416,7 +416,7 @@ fn branches(
 
 // Behind a condition that begins at `first`: its branches, or nothing.
 #[cycle(reading)]
-#[tactic(auto, unfolding(vk_grammar_expr::specs::Reading::choices))]
+#[tactic(auto, unfolding(vk_grammar_expr::specs::Inner::Reading::choices))]
 fn choices(alloc: Global, below: u32, first: Start, condition: High, syms: &[Sym]) -> Read<'_, High>
     requires below { below < 64 }
     requires low { 1 ≤ condition.height }
@@ -438,7 +438,7 @@ fn choices(alloc: Global, below: u32, first: Start, condition: High, syms: &[Sym
 
 // A whole `cond`.
 #[cycle(reading)]
-#[tactic(auto, unfolding(vk_grammar_expr::specs::Reading::conditional))]
+#[tactic(auto, unfolding(vk_grammar_expr::specs::Inner::Reading::conditional))]
 fn conditional(alloc: Global, below: u32, syms: &[Sym]) -> Read<'_, High>
     requires { below < 64 }
     ensures value { (turns : ℕ) → length syms.now < turns → Reads result (spec.conditional below turns (spec.expression turns below) syms.now) }
@@ -452,7 +452,7 @@ fn conditional(alloc: Global, below: u32, syms: &[Sym]) -> Read<'_, High>
 }
 
 // What goes on behind an operand of level 0 that begins at `first`, up to the operators of level `n`.
-#[tactic(auto, unfolding(vk_grammar_expr::specs::Reading::climb))]
+#[tactic(auto, unfolding(vk_grammar_expr::specs::Inner::Reading::climb))]
 fn climb(
     alloc: Global,
     below: u32,
@@ -479,7 +479,7 @@ fn climb(
 }
 
 /// What goes on behind an operand of level 0 that begins at `first`: operators of every level, and `?`.
-#[tactic(auto, unfolding(vk_grammar_expr::specs::Reading::onwards))]
+#[tactic(auto, unfolding(vk_grammar_expr::specs::Inner::Reading::onwards))]
 pub(crate) fn onwards(
     alloc: Global,
     below: u32,

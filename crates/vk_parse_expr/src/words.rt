@@ -160,7 +160,7 @@ fn part_count(syms: &[Sym]) -> usize
 }
 
 /// The words of a type that stand here, with at least one besides `const`, and the tokens behind them.
-#[tactic(auto, unfolding(vk_grammar_expr::specs::Reading::type_words), using(crate::proofs::Parts::parts_read, crate::proofs::Parts::any_word))]
+#[tactic(auto, unfolding(vk_grammar_expr::specs::Inner::Reading::type_words), using(crate::proofs::Parts::parts_read, crate::proofs::Parts::any_word))]
 pub fn type_words(syms: &[Sym]) -> Read<'_, &[Sym]>
     ensures value { (turns : ℕ) → length syms.now < turns → Gives (λ x. (x.0.now, x.1.now)) result (spec.type_words turns syms.now) }
     ensures shorter { IfOk result (λ x. length x.1.now ≤ length syms.now) }

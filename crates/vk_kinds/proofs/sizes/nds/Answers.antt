@@ -1,0 +1,7 @@
+use Rattle.std.proofs.Common.{◌∙◌}
+use Rattle.vk_kinds.specs.Sizes.{head_types, signature_tree}
+use Rattle.vk_kinds.proofs.Facts.{least_result}
+use Rattle.vk_kinds.proofs.sizes.nds.Goals as goal
+
+pub returns-clause-size : goal.returns-clause-size
+returns-clause-size c = least_result (head_types c.args.h.now) (signature_tree c.args.s.now) _ _ (c.as_slice.ensures.value ∙ c.all_sizes.ensures) c.least_of.ensures
