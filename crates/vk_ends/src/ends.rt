@@ -1,10 +1,11 @@
 // How a command ends, with the status and the line on standard error of each end.
 
-ghost use Rattle.std.specs.Prelude.{◌≡◌, IfOk, string_bytes};
-ghost use Rattle.vk_cli.specs.Answers.{message_of, status_of};
+ghost use Rattle.std.specs.Prelude.{◌≡◌, IfOk, map, string_bytes};
+ghost use Rattle.vk_ends.specs.Ends.{file_at, message_of, status_of};
 
-use std::alloc::{AllocError, Global};
-use vk_call::word_of_stop;
+use crate::labels::word_of_stop;
+use std::alloc::{AllocError, AllocFailed, Global};
+use vk_memory::Memory;
 use vk_names::NameRule;
 use vk_types::Stop;
 use vk_unit_rules::UnitRule;
@@ -96,6 +97,36 @@ pub enum End {
     Memory,
 }
 
+impl From<AllocError> for End {
+    ghost use Rattle.vk_ends.specs.declared.ends.End.{End};
+
+    ghost from_gives = { λ _ e. e ≡ End.Memory };
+
+    fn from(_error: AllocError) -> End {
+        End::Memory
+    }
+}
+
+impl<T: Drop> From<AllocFailed<T>> for End {
+    ghost use Rattle.vk_ends.specs.declared.ends.End.{End};
+
+    ghost from_gives = { λ _ e. e ≡ End.Memory };
+
+    fn from(_error: AllocFailed<T>) -> End {
+        End::Memory
+    }
+}
+
+impl From<Memory> for End {
+    ghost use Rattle.vk_ends.specs.declared.ends.End.{End};
+
+    ghost from_gives = { λ _ e. e ≡ End.Memory };
+
+    fn from(_memory: Memory) -> End {
+        End::Memory
+    }
+}
+
 impl End {
     /// The exit status: 0 where all was done, and 1 to 6 for the other ends in turn.
     pub fn status(self) -> u8
@@ -112,16 +143,20 @@ impl End {
         }
     }
 
-    /// The line for standard error, none where all was done. `file` is the input file that it names.
-    pub fn message(self, alloc: Global, file: &str) -> Result<String, AllocError>
-        ensures { IfOk result (λ text. string_bytes text ≡ message_of file.now self) }
+    /// The line for standard error, none where all was done. `files` are the command's input files: a line that names one names
+    /// that of the end's number.
+    pub fn message(self, alloc: Global, files: &[&str]) -> Result<String, AllocError>
+        ensures { IfOk result (λ text. string_bytes text ≡ message_of (map (λ file. file.now) files.now) self) }
     {
         match self {
             End::Done => Ok(String::new(alloc)),
-            End::Refused(refusal) => refusal.message(alloc, file),
+            End::Refused(refusal) => refusal.message(alloc, files),
             End::Words(fault) => format!(in alloc; "vfabi: words: {}\n", fault.rule.label()),
             End::Stopped(stop) => format!(in alloc; "vfabi: stop {}\n", word_of_stop(stop)),
-            End::ReadFault(_) => format!(in alloc; "vfabi: read fault: {file}\n"),
+            End::ReadFault(input) => {
+                let file = file_of(files, input);
+                format!(in alloc; "vfabi: read fault: {file}\n")
+            }
             End::WriteFault => String::from_str(alloc, "vfabi: write fault\n"),
             End::Memory => String::from_str(alloc, NO_MEMORY),
         }
@@ -131,26 +166,43 @@ impl End {
 /// The line of want of memory, which takes none.
 pub const NO_MEMORY: &str = "vfabi: no memory\n";
 
+// The file of this number, and no text where there is none.
+fn file_of<'a>(files: &[&'a str], input: usize) -> &'a str
+    ensures { result.now ≡ file_at (map (λ file. file.now) files.now) input }
+{
+    match files.get(input) {
+        Some(file) => file,
+        None => "",
+    }
+}
+
 impl Refusal {
-    fn message(self, alloc: Global, file: &str) -> Result<String, AllocError>
-        ensures { IfOk result (λ text. string_bytes text ≡ message_of file.now (End.Refused self)) }
+    fn message(self, alloc: Global, files: &[&str]) -> Result<String, AllocError>
+        ensures { IfOk result (λ text. string_bytes text ≡ message_of (map (λ file. file.now) files.now) (End.Refused self)) }
     {
         match self {
-            Refusal::Size { .. } => format!(in alloc; "vfabi: {file}: Z1\n"),
+            Refusal::Size { input } => {
+                let file = file_of(files, input);
+                format!(in alloc; "vfabi: {file}: Z1\n")
+            }
             Refusal::Name { line, at, rule } => {
                 let label = rule.label();
                 format!(in alloc; "vfabi: line {line}: {label} at {at}\n")
             }
             Refusal::Unit {
+                input,
                 line,
                 directive,
                 rule,
-                ..
             } => {
+                let file = file_of(files, input);
                 let label = rule.label();
                 format!(in alloc; "vfabi: {file} line {line} directive {directive}: {label}\n")
             }
-            Refusal::NotYet { .. } => format!(in alloc; "vfabi: {file}: X1\n"),
+            Refusal::NotYet { input } => {
+                let file = file_of(files, input);
+                format!(in alloc; "vfabi: {file}: X1\n")
+            }
             Refusal::Call(fault) => {
                 let label = fault.rule.label();
                 let (first, second) = (fault.first, fault.second);

@@ -1,9 +1,10 @@
-// The labels of rules, as messages have them.
+// The labels of rules and the words of stops, as messages have them.
 
 ghost use Rattle.std.specs.Prelude.{◌≡◌};
-ghost use Rattle.vk_cli.specs.Answers.{call_label, word_label};
+ghost use Rattle.vk_ends.specs.Ends.{call_label, stop_word, word_label};
 
-use crate::answers::{CallRule, WordRule};
+use crate::ends::{CallRule, WordRule};
+use vk_types::Stop;
 
 impl WordRule {
     /// The label of the rule.
@@ -31,5 +32,16 @@ impl CallRule {
             CallRule::A4 => "A4",
             CallRule::A5 => "A5",
         }
+    }
+}
+
+// The word of a stop.
+pub(crate) fn word_of_stop(stop: Stop) -> &'static str
+    ensures { result.now ≡ stop_word stop }
+{
+    match stop {
+        Stop::Divide => "divide",
+        Stop::Bounds => "bounds",
+        Stop::Turns => "turns",
     }
 }
