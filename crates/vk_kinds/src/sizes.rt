@@ -2,7 +2,7 @@
 
 ghost use Rattle.std.specs.Prelude.{◌≡◌, ◌+◌, ◌≤◌, ◌++◌, length, IsTrue};
 ghost use Rattle.arrayvec.specs.ArrayVec.{array_vec_len};
-ghost use Rattle.vk_kinds.specs.Sizes.{all_sizes, bytes_of, cdt, first_vector, greatest_of, head_types, is_size, lane_size, lane_sizes, least_of, nds, result_sizes, signature_tree, size_of, wds};
+ghost use Rattle.vk_kinds.specs.Sizes.{all_sizes, bytes_of, cdt, characteristic, first_vector, greatest_of, head_types, is_size, lane_size, lane_sizes, least_of, nds, result_sizes, signature_tree, size_of, wds};
 
 use crate::heads::{CType, Head};
 use crate::kinds::{Kind, Param, Signature};
@@ -46,6 +46,17 @@ fn first_vector(types: &[CType], params: &[Param]) -> CType
         *ty
     } else {
         first_vector(types, params)
+    }
+}
+
+/// The characteristic data type.
+fn characteristic(h: &Head, s: &Signature) -> CType
+    ensures { result ≡ characteristic h.now.result h.now.params.items s.now.params.items }
+{
+    match h.result {
+        CType::Void => first_vector(h.params.as_slice(), s.params.as_slice()),
+        CType::Int(_) => h.result,
+        CType::Ptr { .. } => h.result,
     }
 }
 
@@ -123,11 +134,7 @@ pub fn cdt(h: &Head, s: &Signature) -> u32
     ensures value { result ≡ cdt (head_types h.now) (signature_tree s.now) }
     ensures size { IsTrue (is_size result) }
 {
-    match h.result {
-        CType::Void => size_of(first_vector(h.params.as_slice(), s.params.as_slice())),
-        CType::Int(t) => bytes_of(t),
-        CType::Ptr { .. } => POINTER_SIZE,
-    }
+    size_of(characteristic(h, s))
 }
 
 /// The narrowest data size in bytes: the least lane size of the parameters and of the result, 4 where there is none.

@@ -12,7 +12,7 @@ use Rattle.vk_names.specs.declared.feed.Progress.TheVariants.{More, Done, Fault}
 use Rattle.vk_names.specs.Spelling.{Name, is_name_byte, text_of, name_in, Spells}
 use Rattle.vk_names.specs.Refusal.{NameRefused}
 use Rattle.vk_names.specs.Pieces.{told_at, is_ended, is_told, is_due, SaysRefused, IfMore, IfDone, IfFault, IsDoneAnd, IsFaultAnd}
-use Rattle.vk_names.specs.Feeds.{found_name, IsRead, IsEnd}
+use Rattle.vk_names.specs.Inner.Feeds.{found_name, IsRead, IsEnd}
 use Rattle.vk_names.proofs.Standing.{IsFound, IsFault}
 use Rattle.vk_names.proofs.Numbers.{left_or}
 use Rattle.vk_names.proofs.Exact.{one_name, spelled_or_refused, one_refusal}

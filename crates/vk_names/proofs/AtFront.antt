@@ -12,13 +12,14 @@ use Rattle.vk_kinds.specs.declared.kinds.Length.{Length}
 use Rattle.vk_names.specs.declared.rules.NameRule.{NameRule}
 use Rattle.vk_names.specs.declared.rules.NameRule.TheVariants.{N1, N2, N3, N4, N11}
 use Rattle.vk_names.specs.declared.rules.NameFault.{NameFault}
-use Rattle.vk_names.specs.declared.rules.Stop.{Stop}
+use Rattle.vk_names.proofs.Reading.{Stop}
 use Rattle.vk_names.specs.declared.steps.Run.{Run}
 use Rattle.vk_names.specs.declared.states.State.{State}
 use Rattle.vk_names.specs.declared.states.State.TheVariants.{Mark, AtIsa, AtMask, AtLen, LenDigits, Next, Fault}
 use Rattle.vk_names.specs.Spelling.{mark, isa_letter, mask_letter, is_name_byte}
 use Rattle.vk_names.specs.Refusal.{Ends, wrong_mark}
-use Rattle.vk_names.specs.Inner.Reading.{◌>>=◌, is_s, number_at, byte_at, mark_at, isa_at, mask_at, fixed_at, len_at, front_at, name_at}
+use Rattle.vk_names.proofs.Reading.{◌>>=◌, number_at, byte_at, mark_at, isa_at, mask_at, fixed_at, len_at, front_at, name_at}
+use Rattle.vk_names.specs.Inner.Steps.{is_s}
 use Rattle.vk_names.specs.Pieces.{told_at, judges_run}
 use Rattle.vk_names.specs.Inner.Steps.{run_from, with_byte, number_of, mark_on, isa_on, mask_on, len_on, size_on, digits_on}
 use Rattle.vk_names.proofs.Standing.{RunIs, IsFault, StateIs, reading, fault}

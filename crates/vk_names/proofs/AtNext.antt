@@ -9,13 +9,13 @@ use Rattle.vk_kinds.specs.declared.kinds.Param.{Param}
 use Rattle.vk_names.specs.declared.rules.NameRule.{NameRule}
 use Rattle.vk_names.specs.declared.rules.NameRule.TheVariants.{N5, N7, N12}
 use Rattle.vk_names.specs.declared.rules.NameFault.{NameFault}
-use Rattle.vk_names.specs.declared.rules.Stop.{Stop}
+use Rattle.vk_names.proofs.Reading.{Stop}
 use Rattle.vk_names.specs.declared.steps.Item.{Item}
 use Rattle.vk_names.specs.declared.steps.Item.TheVariants.{Align}
 use Rattle.vk_names.specs.declared.states.State.{State}
 use Rattle.vk_names.specs.declared.states.State.TheVariants.{Inside, Scalar, Fault}
 use Rattle.vk_names.specs.Spelling.{is_placed, is_name_byte}
-use Rattle.vk_names.specs.Inner.Reading.{kind_at, align_at, param_at, end_at, params_at, front_at}
+use Rattle.vk_names.proofs.Reading.{kind_at, align_at, param_at, end_at, params_at, front_at}
 use Rattle.vk_names.specs.Pieces.{told_at, judges_run}
 use Rattle.vk_names.specs.Inner.Steps.{run_from, item_of, item_with, param_of, has_align, opens_align, head_len, underscore_on, item_on, next_on, pushed, param_on, inside_on}
 use Rattle.vk_names.proofs.Standing.{EndsWith, ItemIs, FrontIs, IsInside, IsFault, StateIs, reading, fault}

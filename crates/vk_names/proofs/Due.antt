@@ -9,10 +9,10 @@ use Rattle.vk_kinds.specs.declared.kinds.Length.{Length}
 use Rattle.vk_kinds.specs.declared.kinds.Param.{Param}
 use Rattle.vk_names.specs.declared.rules.NameRule.{NameRule}
 use Rattle.vk_names.specs.declared.rules.NameFault.{NameFault}
-use Rattle.vk_names.specs.declared.rules.Stop.{Stop}
+use Rattle.vk_names.proofs.Reading.{Stop}
 use Rattle.vk_names.specs.Spelling.{is_placed, is_name_byte, text_of}
 use Rattle.vk_names.specs.Refusal.{digit_run, Ends, Refused, NameRefused}
-use Rattle.vk_names.specs.Inner.Reading.{◌>>=◌, front_at, params_at, scalar_at, name_at}
+use Rattle.vk_names.proofs.Reading.{◌>>=◌, front_at, params_at, scalar_at, name_at}
 use Rattle.vk_names.specs.Pieces.{told_at, is_ended, judges_run, run_ends, is_told}
 use Rattle.vk_names.proofs.Standing.{IsFault, EndsWith}
 use Rattle.vk_names.proofs.Exact.{text_again, name_refused}

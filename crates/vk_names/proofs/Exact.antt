@@ -20,11 +20,11 @@ use Rattle.vk_kinds.specs.declared.kinds.Length.{Length}
 use Rattle.vk_kinds.specs.declared.kinds.Param.{Param}
 use Rattle.vk_names.specs.declared.rules.NameRule.{NameRule}
 use Rattle.vk_names.specs.declared.rules.NameRule.TheVariants.{N2, N3, N4, N5, N6, N7, N8, N9, N10, N11, N12}
-use Rattle.vk_names.specs.declared.rules.Stop.{Stop}
+use Rattle.vk_names.proofs.Reading.{Stop}
 use Rattle.vk_names.specs.declared.names.NameHead.{NameHead}
 use Rattle.vk_names.specs.Spelling.{Name, name_of, name_in, Written, mark, isa_letter, mask_letter, len_text, front_text, step_text, step_of, optional_step_text, kind_letter, kind_text, align_text, written_text, in_decimal, params_text, name_text, IsLen, IsFront, IsStep, IsOptionalStep, IsOptionalAlign, IsWritten, IsName, is_placed, is_name_byte, text_of, Spells}
 use Rattle.vk_names.specs.Refusal.{Ends, has_step, is_kind_letter, Begins, AllPlaced, StandsAt, Refused, wrong_mark, wrong_isa, wrong_mask, wrong_len, wrong_x, stray, one_more, cut_off, wrong_step, wrong_negative, wrong_position, wrong_align, misplaced, wrong_scalar, long_scalar, NameRefused}
-use Rattle.vk_names.specs.Inner.Reading.{◌>>=◌, end_at, params_at, front_at, positions_at, scalar_at, name_at}
+use Rattle.vk_names.proofs.Reading.{◌>>=◌, end_at, params_at, front_at, positions_at, scalar_at, name_at}
 use Rattle.vk_names.proofs.Numbers.{own, cases_result, not_both, err_is, ok_is, bind_err, left_or, digit_of_value}
 use Rattle.vk_names.proofs.Parameters.{bound_err, plain, negative, position, ParamRefused, a_step, an_align, param_refuses}
 use Rattle.vk_names.proofs.Fronts.{Says, stop_at, front_refused, front_takes, mark_refuses, mark_stops_front, isa_stops, mask_stops, len_stops, x_refuses, fixed_refuses}

@@ -13,7 +13,7 @@ use Rattle.vk_kinds.specs.declared.kinds.Param.{Param}
 use Rattle.vk_names.specs.declared.rules.NameRule.{NameRule}
 use Rattle.vk_names.specs.declared.rules.NameRule.TheVariants.{N1, N2, N3, N4, N9, N10}
 use Rattle.vk_names.specs.declared.rules.NameFault.{NameFault}
-use Rattle.vk_names.specs.declared.rules.Stop.{Stop}
+use Rattle.vk_names.proofs.Reading.{Stop}
 use Rattle.vk_names.specs.declared.steps.Run.{Run}
 use Rattle.vk_names.specs.declared.steps.Item.{Item}
 use Rattle.vk_names.specs.declared.states.Found.{Found}
@@ -21,11 +21,11 @@ use Rattle.vk_names.specs.declared.states.State.{State}
 use Rattle.vk_names.specs.declared.states.State.TheVariants.{Mark, AtIsa, AtMask, AtLen, LenDigits, Next, Inside, Scalar, Done, Fault}
 use Rattle.vk_names.specs.Spelling.{Name, mark, isa_letter, is_name_byte, text_of, Spells}
 use Rattle.vk_names.specs.Refusal.{Refused}
-use Rattle.vk_names.specs.Inner.Reading.{digits_at, number_at, param_at, params_at, front_at, scalar_at, name_at, mark_at, byte_at, isa_at, mask_at, len_at}
+use Rattle.vk_names.proofs.Reading.{digits_at, number_at, param_at, params_at, front_at, scalar_at, name_at, mark_at, byte_at, isa_at, mask_at, len_at}
 use Rattle.vk_names.specs.Pieces.{told_at, is_ended, is_told}
 use Rattle.vk_names.specs.Inner.Steps.{number_of, param_of, mark_on, isa_on, mask_on, len_on, digits_on, scalar_on, byte_on, cut_off_at, end_on, answered, state_on}
 use Rattle.vk_names.proofs.Standing.{RunIs, ParamsAre, IsInside, IsInScalar, begins_with_digit, IsFound, IsFault, Reads, StateIs, reading, done, fault}
-use Rattle.vk_names.specs.Feeds.{found_name}
+use Rattle.vk_names.specs.Inner.Feeds.{found_name}
 use Rattle.vk_names.proofs.Numbers.{left_or}
 use Rattle.vk_names.proofs.Fronts.{stop_at, isa_again}
 use Rattle.vk_names.proofs.Placement.{scalar_again, end_refuses}

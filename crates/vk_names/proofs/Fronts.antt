@@ -11,10 +11,11 @@ use Rattle.vk_kinds.specs.declared.kinds.Len.TheVariants.{Fixed, Scalable}
 use Rattle.vk_kinds.specs.declared.kinds.Length.{Length}
 use Rattle.vk_names.specs.declared.rules.NameRule.{NameRule}
 use Rattle.vk_names.specs.declared.rules.NameRule.TheVariants.{N1, N2, N3, N4, N11}
-use Rattle.vk_names.specs.declared.rules.Stop.{Stop}
+use Rattle.vk_names.proofs.Reading.{Stop}
 use Rattle.vk_names.specs.Spelling.{mark, isa_letter, mask_letter, len_text, front_text, IsLen, IsFront}
 use Rattle.vk_names.specs.Refusal.{NoNumber, BeginsWith, Ends, len_goes_on, Refused, wrong_mark, wrong_isa, wrong_mask, wrong_len, wrong_x}
-use Rattle.vk_names.specs.Inner.Reading.{◌>>=◌, refuse, number_at, byte_at, mark_at, isa_at, mask_at, is_s, fixed_at, len_at, front_at}
+use Rattle.vk_names.proofs.Reading.{◌>>=◌, refuse, number_at, byte_at, mark_at, isa_at, mask_at, fixed_at, len_at, front_at}
+use Rattle.vk_names.specs.Inner.Steps.{is_s}
 use Rattle.vk_names.proofs.Numbers.{cases_result, not_both, err_is, done, ok_is, bind_ok, bind_err, chosen, left_or, digit_byte, decimal_run, number_again, number_takes, number_refused, number_refuses}
 use Rattle.vk_names.proofs.Parameters.{begun, bound_err}
 

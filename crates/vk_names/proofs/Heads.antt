@@ -16,7 +16,7 @@ use Rattle.vk_kinds.specs.declared.kinds.Param.{Param}
 use Rattle.vk_names.specs.declared.rules.NameRule.TheVariants.{N7}
 use Rattle.vk_names.specs.Spelling.{Written, len_text, front_text, step_text, step_of, kind_text, align_text, written_text, position_in, in_decimal, params_text, IsLen, IsFront, IsStep, IsOptionalStep, IsOptionalAlign, IsWritten, step_is_placed, is_placed}
 use Rattle.vk_names.specs.Refusal.{Begins, all_params, AllPlaced, Refused, misplaced}
-use Rattle.vk_names.specs.Inner.Reading.{params_at, front_at}
+use Rattle.vk_names.proofs.Reading.{params_at, front_at}
 use Rattle.vk_names.specs.Inner.Steps.{head_len}
 use Rattle.vk_names.proofs.Numbers.{left_or}
 use Rattle.vk_names.proofs.Parameters.{capped, capped_kind, capped_param}

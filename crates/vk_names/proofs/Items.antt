@@ -12,7 +12,7 @@ use Rattle.vk_kinds.specs.declared.kinds.Param.{Param}
 use Rattle.vk_names.specs.declared.rules.NameRule.{NameRule}
 use Rattle.vk_names.specs.declared.rules.NameRule.TheVariants.{N6, N8}
 use Rattle.vk_names.specs.declared.rules.NameFault.{NameFault}
-use Rattle.vk_names.specs.declared.rules.Stop.{Stop}
+use Rattle.vk_names.proofs.Reading.{Stop}
 use Rattle.vk_names.specs.declared.steps.Run.{Run}
 use Rattle.vk_names.specs.declared.steps.Form.{Form}
 use Rattle.vk_names.specs.declared.steps.Form.TheVariants.{Plain, Negative, Position}
@@ -20,7 +20,7 @@ use Rattle.vk_names.specs.declared.steps.Item.{Item}
 use Rattle.vk_names.specs.declared.steps.Item.TheVariants.{Bare, Digits, Whole, Align}
 use Rattle.vk_names.specs.Refusal.{Ends, is_kind_letter}
 use Rattle.vk_names.specs.Pieces.{told_at, judges_run}
-use Rattle.vk_names.specs.Inner.Reading.{◌>>=◌, step_at, kind_at, align_at, param_at}
+use Rattle.vk_names.proofs.Reading.{◌>>=◌, step_at, kind_at, align_at, param_at}
 use Rattle.vk_names.specs.Inner.Steps.{on_ok, run_from, with_byte, align_of, step_of_run, with_step, item_of, item_with, param_of}
 use Rattle.vk_names.proofs.Standing.{form_at, EndsWith, ItemIs}
 use Rattle.vk_names.proofs.Numbers.{chosen, left_or}

@@ -1,3 +1,4 @@
+pub mod Reading
 pub mod Loop
 pub mod Numbers
 pub mod Parameters
@@ -17,3 +18,4 @@ pub mod AtFront
 pub mod Feeding
 pub mod Answered
 pub mod StateAnswers
+pub mod Places

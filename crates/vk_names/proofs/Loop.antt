@@ -2,8 +2,8 @@
 use Rattle.std.proofs.Common.{◌≡◌, ℕ, zero, suc, ◌<◌, List, [], ◌∷◌, ◌++◌, Some, None, Result, Ok, Err, refl, sym, ap, ◌∙◌, arith}
 use Rattle.vk_kinds.specs.declared.kinds.Param.{Param}
 use Rattle.vk_names.specs.declared.rules.NameRule.TheVariants.{N12}
-use Rattle.vk_names.specs.declared.rules.Stop.{Stop}
-use Rattle.vk_names.specs.Inner.Reading.{refuse, end_at, param_at, params_at}
+use Rattle.vk_names.proofs.Reading.{Stop}
+use Rattle.vk_names.proofs.Reading.{refuse, end_at, param_at, params_at}
 
 -- at the `_`
 pub ends : (room : ℕ) (before : List Param) (rest after : List ℕ) (whole : Result (List Param × List ℕ) Stop) → end_at rest ≡ Ok (Some after)

@@ -10,10 +10,11 @@ use Rattle.std.proofs.lemmas.Fmt.{digits_decimal, digits_value-decimal, decimal-
 use Rattle.std.proofs.lemmas.Str.Parse.{IsNumeralModel, numerals_by_value, tells_digits, digit_from_value}
 use Rattle.vk_names.specs.declared.rules.NameRule.{NameRule}
 use Rattle.vk_names.specs.declared.rules.NameRule.TheVariants.{N6}
-use Rattle.vk_names.specs.declared.rules.Stop.{Stop}
+use Rattle.vk_names.proofs.Reading.{Stop}
 use Rattle.vk_names.specs.Spelling.{IsPosition}
 use Rattle.vk_names.specs.Refusal.{digit_run, NoNumber, Ends}
-use Rattle.vk_names.specs.Inner.Reading.{◌>>=◌, refuse, with_digit, digits_after, digits_at, has_zero, number_at, position_at}
+use Rattle.vk_names.proofs.Reading.{◌>>=◌, refuse, digits_after, digits_at, has_zero, number_at, position_at}
+use Rattle.vk_names.specs.Inner.Steps.{with_digit}
 
 pub own : IsNumeralModel (AllDigits 10) (digits_value 10)
 own = numerals_by_value _ tells_digits

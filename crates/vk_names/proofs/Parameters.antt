@@ -14,10 +14,10 @@ use Rattle.vk_kinds.specs.declared.kinds.Kind.{Kind}
 use Rattle.vk_kinds.specs.declared.kinds.Kind.TheVariants.{Vector, Uniform, Linear, Ref, Val, Uval}
 use Rattle.vk_kinds.specs.declared.kinds.Param.{Param}
 use Rattle.vk_names.specs.declared.rules.NameRule.TheVariants.{N5, N6, N8}
-use Rattle.vk_names.specs.declared.rules.Stop.{Stop}
+use Rattle.vk_names.proofs.Reading.{Stop}
 use Rattle.vk_names.specs.Spelling.{Written, step_text, step_of, kind_letter, kind_text, align_text, written_text, IsPosition, IsStep, IsOptionalStep, IsAlign, IsOptionalAlign, IsWritten}
 use Rattle.vk_names.specs.Refusal.{digit_run, NoNumber, Ends, step_goes_on, align_goes_on, param_goes_on, has_step, is_kind_letter}
-use Rattle.vk_names.specs.Inner.Reading.{◌>>=◌, refuse, number_at, position_at, negative_at, plain_at, argument_at, step_at, stepped_at, kind_at, power_at, align_at, param_at}
+use Rattle.vk_names.proofs.Reading.{◌>>=◌, refuse, number_at, position_at, negative_at, plain_at, argument_at, step_at, stepped_at, kind_at, power_at, align_at, param_at}
 use Rattle.vk_names.proofs.Numbers.{cases_result, not_both, err_is, ok_is, done, bind_ok, bind_err, chosen, left_or, digit_byte, is_digit, run_is, decimal_run, own, number_again, number_takes, number_refused, number_refuses, position_again, position_takes, position_refused, position_refuses}
 
 -- ---- positions as they are kept

@@ -12,10 +12,10 @@ use Rattle.vk_kinds.specs.declared.kinds.Kind.TheVariants.{Vector, Uniform, Line
 use Rattle.vk_kinds.specs.declared.kinds.Length.{Length}
 use Rattle.vk_kinds.specs.declared.kinds.Param.{Param}
 use Rattle.vk_names.specs.declared.rules.NameRule.TheVariants.{N7, N10}
-use Rattle.vk_names.specs.declared.rules.Stop.{Stop}
+use Rattle.vk_names.proofs.Reading.{Stop}
 use Rattle.vk_names.specs.Spelling.{Written, step_of, kind_letter, written_text, params_text, front_text, IsWritten, is_uniform, is_uniform_param, step_is_placed, is_placed}
 use Rattle.vk_names.specs.Refusal.{BeginsWith, Begins, all_params, AllPlaced, Refused, misplaced}
-use Rattle.vk_names.specs.Inner.Reading.{refuse, misplaced_at, positions_at, scalar_at}
+use Rattle.vk_names.proofs.Reading.{refuse, misplaced_at, positions_at, scalar_at}
 use Rattle.vk_names.proofs.Numbers.{err_is, ok_is, chosen, left_or}
 use Rattle.vk_names.proofs.Parameters.{capped, capped_kind, capped_param, param_again}
 use Rattle.vk_names.proofs.Fronts.{stop_at, refuse_is, refuse_not, done_not}

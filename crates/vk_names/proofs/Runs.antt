@@ -9,13 +9,13 @@ use Rattle.vk_kinds.specs.declared.kinds.Step.TheVariants.{By, Arg}
 use Rattle.vk_names.specs.declared.rules.NameRule.{NameRule}
 use Rattle.vk_names.specs.declared.rules.NameRule.TheVariants.{N6, N8}
 use Rattle.vk_names.specs.declared.rules.NameFault.{NameFault}
-use Rattle.vk_names.specs.declared.rules.Stop.{Stop}
+use Rattle.vk_names.proofs.Reading.{Stop}
 use Rattle.vk_names.specs.declared.steps.Run.{Run}
 use Rattle.vk_names.specs.declared.steps.Form.{Form}
 use Rattle.vk_names.specs.declared.steps.Form.TheVariants.{Plain, Negative, Position}
 use Rattle.vk_names.specs.Refusal.{Ends}
 use Rattle.vk_names.specs.Pieces.{told_at}
-use Rattle.vk_names.specs.Inner.Reading.{◌>>=◌, refuse, digits_after, digits_at, has_zero, number_at, position_at, power_at}
+use Rattle.vk_names.proofs.Reading.{◌>>=◌, refuse, digits_after, digits_at, has_zero, number_at, position_at, power_at}
 use Rattle.vk_names.specs.Inner.Steps.{on_ok, run_from, with_byte, number_of, position_of, align_of, step_of_run}
 use Rattle.vk_names.proofs.Standing.{RunIs, form_at}
 

@@ -15,10 +15,10 @@ use Rattle.vk_kinds.specs.declared.kinds.Length.{Length}
 use Rattle.vk_kinds.specs.declared.kinds.Param.{Param}
 use Rattle.vk_names.specs.declared.rules.NameRule.{NameRule}
 use Rattle.vk_names.specs.declared.rules.NameRule.TheVariants.{N5, N6, N8, N9, N12}
-use Rattle.vk_names.specs.declared.rules.Stop.{Stop}
+use Rattle.vk_names.proofs.Reading.{Stop}
 use Rattle.vk_names.specs.Spelling.{Written, step_of, kind_letter, kind_text, written_text, params_text, front_text, IsWritten}
 use Rattle.vk_names.specs.Refusal.{Ends, len_goes_on, step_goes_on, align_goes_on, param_goes_on, goes_on, has_step, is_kind_letter, Begins, StandsAt, Refused, stray, one_more, cut_off, wrong_step, wrong_negative, wrong_position, wrong_align}
-use Rattle.vk_names.specs.Inner.Reading.{◌>>=◌, refuse, ended, end_at, param_at, params_at, front_at}
+use Rattle.vk_names.proofs.Reading.{◌>>=◌, refuse, ended, end_at, param_at, params_at, front_at}
 use Rattle.vk_names.proofs.Numbers.{done, ok_is, bind_ok, bind_err, chosen, left_or}
 use Rattle.vk_names.proofs.Parameters.{capped_param, param_again, TakesParam, param_takes, StepRefused, plain, negative, position, ParamRefused, a_step, an_align, param_refused}
 use Rattle.vk_names.proofs.Fronts.{stop_at, refuse_is, refuse_not, done_not, front_again}

@@ -7,7 +7,7 @@ use Rattle.vk_kinds.specs.declared.kinds.Step.TheVariants.{One}
 use Rattle.vk_kinds.specs.declared.kinds.Length.{Length}
 use Rattle.vk_kinds.specs.declared.kinds.Param.{Param}
 use Rattle.vk_names.specs.declared.rules.NameFault.{NameFault}
-use Rattle.vk_names.specs.declared.rules.Stop.{Stop}
+use Rattle.vk_names.proofs.Reading.{Stop}
 use Rattle.vk_names.specs.declared.steps.Run.{Run}
 use Rattle.vk_names.specs.declared.steps.Form.{Form}
 use Rattle.vk_names.specs.declared.steps.Form.TheVariants.{Plain, Negative, Position}
@@ -20,8 +20,8 @@ use Rattle.vk_names.specs.Spelling.{mark, isa_letter, mask_letter, is_placed, is
 use Rattle.vk_names.specs.Refusal.{NameRefused}
 use Rattle.vk_names.specs.Pieces.{is_ended, is_due, told_at}
 use Rattle.vk_names.specs.Inner.Steps.{with_step}
-use Rattle.vk_names.specs.Feeds.{found_name}
-use Rattle.vk_names.specs.Inner.Reading.{◌>>=◌, digits_after, digits_at, has_zero, plain_at, negative_at, argument_at, step_at, kind_at, end_at, params_at, front_at}
+use Rattle.vk_names.specs.Inner.Feeds.{found_name}
+use Rattle.vk_names.proofs.Reading.{◌>>=◌, digits_after, digits_at, has_zero, plain_at, negative_at, argument_at, step_at, kind_at, end_at, params_at, front_at}
 
 -- the run is of these digits, of which the first stands at the place
 pub record RunIs (run : Run) (at : ℕ) (ds : List ℕ) : Type 0 where

@@ -12,7 +12,7 @@ use Rattle.vk_names.specs.declared.feed.NameFeed.{NameFeed}
 use Rattle.vk_names.specs.declared.feed.Progress.{Progress}
 use Rattle.vk_names.specs.declared.feed.Progress.TheVariants.{More}
 use Rattle.vk_names.specs.Inner.Steps.{end_on, state_on}
-use Rattle.vk_names.specs.Feeds.{after, Stands, IsProgress, IsEnd}
+use Rattle.vk_names.specs.Inner.Feeds.{after, Stands, IsProgress, IsEnd}
 use Rattle.vk_names.proofs.Standing.{Reads, StateIs, reading, done, fault}
 use Rattle.vk_names.proofs.Feeding.{end_is, state_is, starts}
 use Rattle.vk_names.proofs.Answered.{Answered, more_answered, done_answered, fault_answered, Ended, found_ended, fault_ended, open_ended}

@@ -14,10 +14,10 @@ use Rattle.vk_kinds.specs.declared.kinds.Kind.{Kind}
 use Rattle.vk_kinds.specs.declared.kinds.Kind.TheVariants.{Vector, Uniform, Linear, Ref, Val, Uval}
 use Rattle.vk_kinds.specs.declared.kinds.Length.{Length}
 use Rattle.vk_kinds.specs.declared.kinds.Param.{Param}
-use Rattle.vk_names.specs.declared.rules.Stop.{Stop}
+use Rattle.vk_names.proofs.Reading.{Stop}
 use Rattle.vk_names.specs.Spelling.{Name, Written, front_text, step_text, step_of, align_text, written_text, position_in, in_decimal, params_text, name_text, IsPosition, IsStep, IsOptionalStep, IsOptionalAlign, IsWritten, IsName, is_uniform_param, step_is_placed, is_placed, is_name_byte}
 use Rattle.vk_names.specs.Refusal.{Ends, len_goes_on, step_goes_on, align_goes_on, param_goes_on, goes_on, Begins, all_params, AllPlaced}
-use Rattle.vk_names.specs.Inner.Reading.{◌>>=◌, end_at, params_at, front_at, positions_at, misplaced_at, scalar_at, name_at}
+use Rattle.vk_names.proofs.Reading.{◌>>=◌, end_at, params_at, front_at, positions_at, misplaced_at, scalar_at, name_at}
 use Rattle.vk_names.proofs.Numbers.{own, done, ok_is, bind_ok, chosen, left_or}
 use Rattle.vk_names.proofs.Parameters.{capped, capped_param}
 use Rattle.vk_names.proofs.Fronts.{TakesFront, front_takes}

@@ -5,7 +5,7 @@ ghost use Rattle.vk_names.specs.declared.rules.NameRule.{NameRule};
 ghost use Rattle.vk_names.specs.Refusal.{NameRefused};
 ghost use Rattle.vk_names.specs.Pieces.{told_at, is_ended, is_due, SaysRefused, IfMore, IfDone, IfFault, IsDoneAnd, IsFaultAnd};
 ghost use Rattle.vk_names.specs.Inner.Steps.{end_on, state_on};
-ghost use Rattle.vk_names.specs.Feeds.{Stands, IsRead, IsProgress, IsEnd};
+ghost use Rattle.vk_names.specs.Inner.Feeds.{Stands, IsRead, IsProgress, IsEnd};
 
 use crate::names::{NameHead, ReadName};
 use crate::rules::{NameFault, NameRule};
@@ -13,7 +13,7 @@ use crate::states::{Found, State, end_on, state_on};
 use vk_kinds::Params;
 
 /// What a feed answers.
-#[derive(Drop)]
+#[derive(PartialEq, Eq, Debug, Drop)]
 pub enum Progress {
     /// Nothing is due to be answered yet.
     More,
@@ -80,9 +80,7 @@ impl NameFeed {
             → IsTrue (is_due bytes at rule) → NameRefused bytes at rule
             → IsFaultAnd result (λ fault. (fault.at ≡ told_at at) × (fault.rule ≡ rule)) }
     {
-        for byte in piece {
-            self.take(*byte);
-        }
+        self.take_all(piece);
         self.progress()
     }
 
@@ -104,6 +102,15 @@ impl NameFeed {
         self.ended()
     }
 
+    /// Takes some bytes.
+    pub(crate) fn take_all(&mut self, piece: &[u8])
+        ensures { (bytes : List ℕ) → Stands self.old bytes → Stands self.new (bytes ++ piece.now) }
+    {
+        for byte in piece {
+            self.take(*byte);
+        }
+    }
+
     /// Takes a byte.
     fn take(&mut self, byte: u8)
         ensures { (self.new.state, self.new.params.items) ≡ state_on self.old.state self.old.params.items byte }
@@ -117,16 +124,7 @@ impl NameFeed {
     {
         let mut params = Params::new();
         let _fits = params.try_extend_from_slice(self.params.as_slice());
-        ReadName {
-            head: NameHead {
-                isa: found.front.isa,
-                masked: found.front.masked,
-                len: found.front.len,
-                params,
-            },
-            scalar_at: found.scalar_at,
-            used: found.used,
-        }
+        name_of(found, params)
     }
 
     fn progress(&self) -> Progress
@@ -146,5 +144,31 @@ impl NameFeed {
             Ok(found) => Ok(self.name(found)),
             Err(fault) => Err(fault),
         }
+    }
+
+    /// What `end` answers, of a feed that is done with.
+    pub(crate) fn finish(self) -> Result<ReadName, NameFault>
+        ensures { IsEnd self.params.items (end_on self.state) result }
+    {
+        match end_on(self.state) {
+            Ok(found) => Ok(name_of(found, self.params)),
+            Err(fault) => Err(fault),
+        }
+    }
+}
+
+/// The name that was found, with these parameters.
+fn name_of(found: Found, params: Params) -> ReadName
+    ensures { IsRead found params.items result }
+{
+    ReadName {
+        head: NameHead {
+            isa: found.front.isa,
+            masked: found.front.masked,
+            len: found.front.len,
+            params,
+        },
+        scalar_at: found.scalar_at,
+        used: found.used,
     }
 }

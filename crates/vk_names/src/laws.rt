@@ -1,5 +1,5 @@
 //! What holds of the two relations on bytes, `Spells` and `NameRefused`.
-ghost use Rattle.std.specs.Prelude.{◌≡◌, ℕ, ◌++◌, ◌⊎◌, List, IsTrue};
+ghost use Rattle.std.specs.Prelude.{◌≡◌, ℕ, ◌≤◌, ◌++◌, ◌⊎◌, List, length, IsTrue};
 ghost use Rattle.vk_names.specs.Spelling.{Name, IsName, Spells, name_text, text_of, is_name_byte};
 ghost use Rattle.vk_names.specs.Refusal.{NameRefused, Ends};
 ghost use Rattle.vk_names.specs.Pieces.{is_ended, is_due};
@@ -15,6 +15,11 @@ pub fn one_answer()
         → Spells name bytes → Spells other bytes → name ≡ other }
     ensures one_refusal { (bytes : List ℕ) (at place : ℕ) (rule other : NameRule)
         → NameRefused bytes at rule → NameRefused bytes place other → (at ≡ place) × (rule ≡ other) }
+{}
+
+/// No place of a refusal is above the number of bytes.
+pub fn places()
+    ensures { (bytes : List ℕ) (at : ℕ) (rule : NameRule) → NameRefused bytes at rule → at ≤ length bytes }
 {}
 
 /// What is written for a name spells it, where no letter, digit or underscore follows. So `read_name` gives back each

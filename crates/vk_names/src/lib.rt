@@ -4,7 +4,6 @@
 pub mod feed;
 pub mod laws;
 pub mod names;
-mod params;
 mod read;
 pub mod rules;
 mod states;
@@ -16,6 +15,3 @@ pub use names::{NameHead, ReadName};
 pub use read::read_name;
 pub use rules::{NameFault, NameRule};
 pub use write::write_name;
-
-#[cfg(test)]
-mod tests;

@@ -3,7 +3,7 @@
 use vk_kinds::{Isa, Len, Params};
 
 /// A name without its scalar name.
-#[derive(Drop)]
+#[derive(PartialEq, Eq, Debug, Drop)]
 pub struct NameHead {
     pub isa: Isa,
     pub masked: bool,
@@ -12,7 +12,7 @@ pub struct NameHead {
 }
 
 /// A name that was read.
-#[derive(Drop)]
+#[derive(PartialEq, Eq, Debug, Drop)]
 pub struct ReadName {
     pub head: NameHead,
     /// The place of the scalar name's first byte, from 0.

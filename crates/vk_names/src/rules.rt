@@ -64,11 +64,3 @@ pub struct NameFault {
     pub at: u32,
     pub rule: NameRule,
 }
-
-/// A refusal in the middle of reading.
-#[derive(Clone, Copy)]
-pub(crate) struct Stop {
-    /// How many bytes of the text are left at the place of the refusal.
-    pub(crate) left: usize,
-    pub(crate) rule: NameRule,
-}

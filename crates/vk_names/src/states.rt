@@ -1,18 +1,16 @@
 // Reading a name byte by byte, with a state of fixed size.
 ghost use Rattle.std.specs.Prelude.{◌≡◌, ◌+◌, ◌≤◌, length};
-ghost use Rattle.std.specs.List.{prefix_len};
-ghost use Rattle.vk_names.specs.Spelling.{is_placed};
+ghost use Rattle.std.specs.List.{prefix_len, slice_get};
+ghost use Rattle.vk_names.specs.Spelling.{is_name_byte, is_placed, is_uniform_param};
 ghost use Rattle.vk_names.specs.Pieces.{told_at};
 ghost use Rattle.vk_names.specs.Inner.Steps.{item_with, mark_on, isa_on, mask_on, len_on, digits_on, underscore_on, next_on, scalar_on, pushed, param_on, inside_on, byte_on, end_on, answered, state_on};
 
-use crate::params::is_placed;
-use crate::read::is_name_byte;
 use crate::rules::{NameFault, NameRule};
 use crate::steps::{
     Item, Run, after, item_of, item_with, number_of, opens_align, param_of, run_from, with_byte,
 };
 use crate::write::head_len;
-use vk_kinds::{Isa, Len, Length, Param, Params};
+use vk_kinds::{Isa, Kind, Len, Length, Param, Params, Step};
 
 /// A name that ends here or goes on.
 #[derive(Clone, Copy)]
@@ -112,6 +110,29 @@ fn len_on(isa: Isa, masked: bool, byte: u8) -> State
         },
         b'0'..=b'9' => State::LenDigits(isa, masked, with_byte(run_from(6), byte)),
         _ => refused(6, NameRule::N4),
+    }
+}
+
+/// Whether the parameter at this place is uniform.
+fn is_uniform_at(params: &[Param], at: u8) -> bool
+    ensures { result ≡ is_uniform_param (slice_get params.now at) }
+{
+    match params.get(at as usize) {
+        Some(param) => matches!(param.kind, Kind::Uniform),
+        None => false,
+    }
+}
+
+/// Whether the parameter's position, where it has one, names a uniform parameter.
+fn is_placed(params: &[Param], param: Param) -> bool
+    ensures { result ≡ is_placed params.now param }
+{
+    match param.kind {
+        Kind::Linear(Step::Arg(at)) => is_uniform_at(params, at),
+        Kind::Ref(Step::Arg(at)) => is_uniform_at(params, at),
+        Kind::Val(Step::Arg(at)) => is_uniform_at(params, at),
+        Kind::Uval(Step::Arg(at)) => is_uniform_at(params, at),
+        _ => true,
     }
 }
 
@@ -226,7 +247,7 @@ fn inside_on(front: Length, params: &mut Params, at: u32, item: Item, byte: u8) 
 }
 
 /// The state after a letter, a digit or an underscore. Parameters that are whole now are added.
-#[tactic(auto, unfolding(crate::specs::Steps::byte_on))]
+#[tactic(auto, unfolding(crate::specs::Inner::Steps::byte_on))]
 fn byte_on(state: State, params: &mut Params, byte: u8) -> State
     ensures { (result, params.new.items) ≡ byte_on state params.old.items byte }
 {
@@ -247,7 +268,7 @@ fn byte_on(state: State, params: &mut Params, byte: u8) -> State
 }
 
 /// What the bytes so far are, if the text ends here.
-#[tactic(auto, unfolding(crate::specs::Steps::end_on))]
+#[tactic(auto, unfolding(crate::specs::Inner::Steps::end_on))]
 pub(crate) fn end_on(state: State) -> Result<Found, NameFault>
     ensures { result ≡ end_on state }
 {
@@ -271,6 +292,13 @@ pub(crate) fn end_on(state: State) -> Result<Found, NameFault>
         State::Fault(fault) => return Err(fault),
     };
     Err(NameFault { at, rule })
+}
+
+/// Whether the byte is a letter, a digit or an underscore.
+fn is_name_byte(byte: u8) -> bool
+    ensures { result ≡ is_name_byte byte }
+{
+    byte.is_ascii_alphanumeric() || byte == b'_'
 }
 
 /// The state after any byte.

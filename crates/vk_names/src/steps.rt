@@ -1,12 +1,10 @@
 // Reading the digits and the parameters of a name byte by byte.
 //
 // A place past `u32::MAX` is kept as `u32::MAX`.
-ghost use Rattle.std.specs.Prelude.{◌≡◌, ◌+◌, ◌≤◌, IfOk};
-ghost use Rattle.vk_names.specs.Inner.Reading.{with_digit};
+ghost use Rattle.std.specs.Prelude.{◌≡◌, ◌+◌, ◌-◌, ◌≤◌, pos, negsuc, IfOk};
 ghost use Rattle.vk_names.specs.Pieces.{told_at};
-ghost use Rattle.vk_names.specs.Inner.Steps.{run_from, with_byte, number_of, position_of, align_of, step_of_run, with_step, item_of, item_with, param_of, opens_align};
+ghost use Rattle.vk_names.specs.Inner.Steps.{with_digit, run_from, with_byte, number_of, position_of, align_of, step_of_run, with_step, item_of, item_with, param_of, opens_align};
 
-use crate::params::{negative_step, plain_step};
 use crate::rules::{NameFault, NameRule};
 use vk_kinds::{Kind, Param, Step};
 
@@ -122,6 +120,23 @@ fn align_of(run: Run) -> Result<u32, NameFault>
         }),
         Err(fault) => Err(fault),
     }
+}
+
+/// A plain step.
+fn plain_step(size: u32) -> Step
+    requires { size ≤ 2147483647 }
+    ensures { result ≡ Step.By (pos size) }
+{
+    Step::By(size as i32)
+}
+
+/// A negative step.
+fn negative_step(size: u32) -> Step
+    requires low { 1 ≤ size }
+    requires high { size ≤ 2147483647 }
+    ensures { result ≡ Step.By (negsuc (size - 1)) }
+{
+    Step::By(-(size as i32))
 }
 
 /// The step that the digits say.

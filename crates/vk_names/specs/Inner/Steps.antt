@@ -1,6 +1,6 @@
--- Reading a name byte by byte: what a byte makes of the state, and what the end makes of it. The functions of `steps.rt`
--- and `states.rt` give just this; what it comes to is said by the clauses of `NameFeed`.
-use Rattle.std.specs.Prelude.{ℕ, ◌+◌, ◌-◌, ◌==◌, nat_lt, min, Bool, true, false, ◌&&◌, ◌||◌, List, [], ◌∷◌, ◌++◌, length, take, map, Option, Some, None, Result, Ok, Err, pos, negsuc, if◌then◌else◌}
+-- No public contract's meaning rests on this: it copies the states of the code that reads a name byte by byte. What a byte makes
+-- of the state, and what the end makes of it: the functions of `steps.rt` and `states.rt` give just this.
+use Rattle.std.specs.Prelude.{ℕ, ◌+◌, ◌*◌, ◌-◌, ◌==◌, nat_lt, min, Bool, true, false, ◌&&◌, ◌||◌, List, [], ◌∷◌, ◌++◌, length, take, map, Option, Some, None, Result, Ok, Err, pos, negsuc, if◌then◌else◌}
 use Rattle.std.specs.Char.{is_ascii_digit}
 use Rattle.std.specs.Int.{is_power_of_two}
 use Rattle.std.specs.List.{prefix_len}
@@ -26,7 +26,14 @@ use Rattle.vk_names.specs.declared.states.State.{State}
 use Rattle.vk_names.specs.declared.states.State.TheVariants.{Mark, AtIsa, AtMask, AtLen, LenDigits, Next, Inside, Scalar, Done, Fault}
 use Rattle.vk_names.specs.Spelling.{front_text, params_text, in_decimal, is_placed, is_name_byte}
 use Rattle.vk_names.specs.Pieces.{told_at}
-use Rattle.vk_names.specs.Inner.Reading.{with_digit, is_s}
+
+abbrev pub is_s : Isa → Bool
+is_s B = false
+is_s C = false
+is_s D = false
+is_s E = false
+is_s N = false
+is_s S = true
 
 abbrev pub on_ok : {A B : Type 0} → Result A NameFault → (A → Result B NameFault) → Result B NameFault
 on_ok (Ok x) f = f x
@@ -36,6 +43,10 @@ abbrev pub fault_at : {A : Type 0} → ℕ → NameRule → Result A NameFault
 fault_at at rule = Err (record { at = at; rule = rule })
 
 -- ---- runs of digits
+
+-- the number goes on with a digit, and stays at 4294967295 once it is there
+abbrev pub with_digit : ℕ → ℕ → ℕ
+with_digit n b = min (n * 10 + (b - 48)) 4294967295
 
 abbrev pub run_from : ℕ → Run
 run_from at = record { at = at; len = 0; zero = false; value = 0 }

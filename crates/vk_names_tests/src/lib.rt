@@ -1,0 +1,5 @@
+//! Tests of the reading and writing of names.
+#![tactic(auto)]
+
+#[cfg(test)]
+mod tests;
