@@ -1,7 +1,9 @@
 -- The line that a command writes on standard error.
-use Rattle.std.specs.Prelude.{◌≡◌, ◌⊎◌, ℕ, List, ◌++◌, IsTrue}
+use Rattle.std.specs.Prelude.{◌≡◌, ◌⊎◌, ℕ, List, ◌++◌, IsTrue, Result, Ok, Err}
 use Rattle.vk_io.specs.Counts.{Rose, next_count}
 use Rattle.vk_io.specs.Sink.{GrowsWithin, SinkState, Stays}
+use Rattle.vk_io.specs.declared.outside.Outside.{Outside}
+use Rattle.vk_io.specs.declared.outside.Outside.TheVariants.{Failed, Memory as NoMemory}
 use Rattle.vk_ends.specs.Ends.{message_of}
 use Rattle.vk_ends.specs.declared.ends.End.{End}
 use Rattle.vk_ends.specs.declared.ends.End.TheVariants.{Memory}
@@ -15,3 +17,9 @@ pub record Reports (files : List (List ℕ)) (end : End) (err err_now : SinkStat
   pub lean : IsTrue err.tells → IsTrue err.is_lean → end ≡ Memory → GrowsWithin err.bytes err_now.bytes (message_of files Memory)
   pub calls : (err_now.calls ≡ err.calls) ⊎ (err_now.calls ≡ next_count err.calls)
   pub stays : Stays err err_now
+
+-- the end that is told where its line was put so
+abbrev pub told_end : End → Result (Unit {0}) Outside → End
+told_end end (Ok x) = end
+told_end end (Err Failed) = end
+told_end end (Err NoMemory) = Memory

@@ -6,10 +6,10 @@
 pub mod ends;
 pub mod input;
 pub mod labels;
-pub mod print;
-pub mod report;
+pub mod printing;
+pub mod reporting;
 
 pub use ends::{CallFault, CallRule, End, NO_MEMORY, Refusal, WordFault, WordRule};
 pub use input::{IMAGE_LIMIT, OBJECT_LIMIT, UNIT_LIMIT, read_input};
-pub use print::print;
-pub use report::report;
+pub use printing::print;
+pub use reporting::report;

@@ -1,0 +1,3 @@
+mod NameLines
+mod Described
+mod Lined
