@@ -1,6 +1,5 @@
 -- The bytes of a name are text, and its parameters' words.
-use Rattle.std.proofs.Common.{◌≡◌, ℕ, ◌+◌, ◌<◌, ◌≤◌, true, List, [], ◌∷◌, ◌++◌, length, get_or, take, arith, sym, ap, ap₂, ◌∙◌, IsUtf8, inl, inr}
-use Rattle.std.specs.Prelude.{codes}
+use Rattle.std.proofs.Common.{◌≡◌, ℕ, ◌+◌, ◌<◌, ◌≤◌, true, List, [], ◌∷◌, ◌++◌, length, get_or, take, arith, sym, ap, append_assoc, ◌∙◌, IsUtf8, inl, inr}
 use Rattle.std.specs.List.{flat_map, list_all, prefix_len}
 use Rattle.std.specs.Str.{IsAscii}
 use Rattle.std.proofs.lemmas.Bool.Decides.{nat_tests}
@@ -13,7 +12,7 @@ use Rattle.std.proofs.lemmas.Grind.{flat_map-append}
 use Rattle.std.proofs.lemmas.Str.{IsUtf8-from_ascii}
 use Rattle.vk_kinds.specs.declared.kinds.Param.{Param}
 use Rattle.vk_names.specs.Spelling.{is_name_byte, text_of}
-use Rattle.vk_cmd_demangle.specs.Lines.{align_words, kind_words, param_words}
+use Rattle.vk_cmd_demangle.specs.Lines.{param_words}
 
 -- a letter, digit or underscore is one ASCII byte
 name_byte_ascii : (b : ℕ) → is_name_byte b ≡ true → b < 128
@@ -29,13 +28,13 @@ pub name_bytes_text : (bs : List ℕ) → list_all is_name_byte bs ≡ true → 
 name_bytes_text bs h = IsUtf8-from_ascii bs (name_bytes_ascii bs h)
 
 -- one more parameter
-pub params_more : (params : List Param) (i : ℕ) (p d : Param) (old new kind align : List ℕ) → i < length params → p ≡ get_or params i d →
-    old ≡ flat_map param_words (take i params) → kind ≡ kind_words p.kind → align ≡ align_words p.align → new ≡ old ++ (codes " " ++ (kind ++ align)) →
-    new ≡ flat_map param_words (take (i + 1) params)
-params_more params i p d old new kind align h read before k a e =
-    e ∙ ap₂ (λ xs ys. xs ++ (codes " " ++ ys)) before (ap₂ (λ xs ys. xs ++ ys) k a)
-    ∙ sym (ap (flat_map param_words) (take_more params i d h ∙ ap (λ q. take i params ++ (q ∷ [])) (sym read))
-    ∙ flat_map-append param_words (take i params) (p ∷ []) ∙ ap (λ xs. flat_map param_words (take i params) ++ xs) (append-nil (param_words p)))
+pub params_more : (params : List Param) (i : ℕ) (p d : Param) (start old new : List ℕ) → i < length params → p ≡ get_or params i d →
+    old ≡ start ++ flat_map param_words (take i params) → new ≡ old ++ param_words p →
+    new ≡ start ++ flat_map param_words (take (i + 1) params)
+params_more params i p d start old new h read before e =
+    e ∙ ap (λ xs. xs ++ param_words p) before ∙ append_assoc start (flat_map param_words (take i params)) (param_words p)
+    ∙ ap (λ xs. start ++ xs) (sym (ap (flat_map param_words) (take_more params i d h ∙ ap (λ q. take i params ++ (q ∷ [])) (sym read))
+    ∙ flat_map-append param_words (take i params) (p ∷ []) ∙ ap (λ xs. flat_map param_words (take i params) ++ xs) (append-nil (param_words p))))
 
 -- the text of a line that has no more bytes
 pub text_whole : (line : List ℕ) → length line ≤ length (text_of line) → text_of line ≡ line

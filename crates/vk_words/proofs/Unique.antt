@@ -1,149 +1,108 @@
--- Words ask one thing, and where they ask something they break no rule.
-use Rattle.std.proofs.Common.{◌≡◌, ◌∙◌, ◌≤◌, ◌<◌, ◌^◌, ◌==◌, ℕ, Bool, true, false, true≢false, List, [], ◌∷◌, ◌⊎◌, inl, inr, refl, sym, ap, subst, arith, length, Option, Some, None, if◌then◌else◌, get_or}
-use Rattle.std.specs.Prelude.{codes, decimal}
-use Rattle.std.specs.Str.Parse.{digits_value}
-use Rattle.std.proofs.lemmas.Fmt.{decimal_injective}
+-- Words ask one thing or break one rule.
+use Rattle.std.proofs.Common.{◌≡◌, ◌∙◌, ◌==◌, ℕ, true, false, List, [], Option, Some, None, refl, sym, ap, subst, if◌then◌else◌, get_or}
+use Rattle.std.specs.Prelude.{codes}
+use Rattle.std.proofs.lemmas.Bool.{false≢true}
 use Rattle.clap.specs.Words.{App, Text, takes}
-use Rattle.vk_words.specs.Reading.{value_at, values_at}
-use Rattle.vk_words.specs.Tables.{call_table, link_table, run_table}
-use Rattle.vk_words.specs.Asked.{CallAsked, IsCall, IsCallUnstated, IsIsa, IsLink, IsLinkUnstated, IsRun, IsRunUnstated, IsTurns, IsTurnsText, IsVl, IsVlText, LinkAsked, RunAsked, letter_text}
-use Rattle.vk_words.specs.Command.{Command, IsCommand, IsUnstated, IsWordFault, Picks, call, first_word, link, name_text, run, table_of}
-use Rattle.vk_kinds.specs.declared.kinds.Isa.{Isa}
-use Rattle.vk_kinds.specs.declared.kinds.Isa.TheVariants.{B, C, D, E, N, S}
+use Rattle.vk_words.specs.Asked.{IsDemangle, IsLanes, IsLanesUnstated, LanesAsked}
+use Rattle.vk_words.specs.Command.{Command, IsCommand, IsUnstated, IsWordFault, Picks, demangle, first_word, lanes, name_text, table_of}
 use Rattle.vk_words.specs.declared.request.Name.{Name}
-use Rattle.vk_words.specs.declared.request.Name.TheVariants.{Call as CallName, Link as LinkName, Run as RunName}
-use Rattle.vk_words.specs.declared.request.WordRule.{WordRule}
-use Rattle.vk_words.specs.declared.request.WordRule.TheVariants.{P1, P2, P3, P4}
+use Rattle.vk_words.specs.declared.request.Name.TheVariants.{Demangle as DemangleName, Lanes as LanesName}
+use Rattle.vk_ends.specs.declared.ends.WordRule.{WordRule}
+use Rattle.vk_ends.specs.declared.ends.WordRule.TheVariants.{P1, P2, P3, P4}
 
 some_same : {X : Type 0} (o : Option X) (x y : X) → o ≡ Some x → o ≡ Some y → x ≡ y
 some_same o x y a b = cc
 
-turns_same : (o : Option Text) (m n : ℕ) → IsTurns o m → IsTurns o n → m ≡ n
-turns_same None m n a b = a ∙ sym b
-turns_same (Some t) m n a b = let x = a.most in let y = b.most in decimal_injective m n (omega arith) (omega arith) (sym a.spelled ∙ b.spelled)
-
-abbrev isa_by : ℕ → Isa
-isa_by x = if x == 98 then B else (if x == 99 then C else (if x == 100 then D else (if x == 101 then E else (if x == 110 then N else S))))
-
-isa_of_text : (isa : Isa) → isa_by (get_or (letter_text isa) 0 0) ≡ isa
-isa_of_text B = refl
-isa_of_text C = refl
-isa_of_text D = refl
-isa_of_text E = refl
-isa_of_text N = refl
-isa_of_text S = refl
-
-isa_same : (o : Option Text) (a b : Isa) → IsIsa o a → IsIsa o b → a ≡ b
-isa_same o a b x y = sym (isa_of_text a) ∙ ap (λ (t : Text). isa_by (get_or t 0 0)) (some_same o _ _ x y) ∙ isa_of_text b
-
-vl_is : (t : Text) (n : ℕ) → IsVlText t n → n ≡ digits_value 10 t
-vl_is t n (inl e) = e.1 ∙ sym (ap (digits_value 10) e.0)
-vl_is t n (inr (inl e)) = e.1 ∙ sym (ap (digits_value 10) e.0)
-vl_is t n (inr (inr (inl e))) = e.1 ∙ sym (ap (digits_value 10) e.0)
-vl_is t n (inr (inr (inr (inl e)))) = e.1 ∙ sym (ap (digits_value 10) e.0)
-vl_is t n (inr (inr (inr (inr e)))) = e.1 ∙ sym (ap (digits_value 10) e.0)
-
-vl_same : (o : Option Text) (a b : Option ℕ) → IsVl o a → IsVl o b → a ≡ b
-vl_same None a b x y = x ∙ sym y
-vl_same (Some t) None b x y = absurd x
-vl_same (Some t) (Some m) None x y = absurd y
-vl_same (Some t) (Some m) (Some n) x y = ap Some (vl_is t m x ∙ sym (vl_is t n y))
+-- ---- names
 
 abbrev name_by : ℕ → Name
-name_by x = if x == 99 then CallName else (if x == 108 then LinkName else RunName)
+name_by x = if x == 100 then DemangleName else LanesName
 
 name_of_text : (name : Name) → name_by (get_or (name_text name) 0 0) ≡ name
-name_of_text CallName = refl
-name_of_text LinkName = refl
-name_of_text RunName = refl
+name_of_text DemangleName = refl
+name_of_text LanesName = refl
 
-pub name_same : (words : List Text) (a b : Name) → Picks words a → Picks words b → a ≡ b
+name_same : (words : List Text) (a b : Name) → Picks words a → Picks words b → a ≡ b
 name_same words a b x y = sym (name_of_text a) ∙ ap (λ (t : Text). name_by (get_or t 0 0)) (some_same (first_word words) _ _ x y) ∙ name_of_text b
 
-call_same : (words : List Text) (r s : CallAsked) → IsCall words r → IsCall words s → r ≡ s
-call_same words r s a b =
-    let image = some_same _ _ _ a.image b.image in
+not_both : DemangleName ≡ LanesName → ⊥
+not_both e = cc
+
+some_word : (words : List Text) (name : Name) → words ≡ [] → Picks words name → ⊥
+some_word words name e p = let none : None ≡ Some (name_text name) = ap first_word (sym e) ∙ p in cc
+
+-- ---- what is asked
+
+demangle_same : (words : List Text) (r s : Text) → IsDemangle words r → IsDemangle words s → r ≡ s
+demangle_same words r s a b = some_same _ _ _ a.file b.file
+
+lanes_same : (words : List Text) (r s : LanesAsked) → IsLanes words r → IsLanes words s → r ≡ s
+lanes_same words r s a b =
+    let unit = some_same _ _ _ a.unit b.unit in
     let name = some_same _ _ _ a.name b.name in
     let arguments = sym a.arguments ∙ b.arguments in
-    let mask = sym a.mask ∙ b.mask in
-    let turns = turns_same _ _ _ a.turns b.turns in
-    λ i. record { image = image i; name = name i; arguments = arguments i; mask = mask i; turns = turns i }
-
-run_same : (words : List Text) (r s : RunAsked) → IsRun words r → IsRun words s → r ≡ s
-run_same words r s a b =
-    let image = some_same _ _ _ a.image b.image in
-    let turns = turns_same _ _ _ a.turns b.turns in
-    let stats = sym a.stats ∙ b.stats in
-    λ i. record { image = image i; turns = turns i; has_stats = stats i }
-
-link_same : (words : List Text) (r s : LinkAsked) → IsLink words r → IsLink words s → r ≡ s
-link_same words r s a b =
-    let isa = isa_same _ _ _ a.isa b.isa in
-    let vl = vl_same _ _ _ a.vl b.vl in
-    let image = some_same _ _ _ a.image b.image in
-    let first = some_same _ _ _ a.at_first b.at_first in
-    let objects = a.objects ∙ (ap (λ (f : Text). f ∷ values_at link_table (codes "MORE") words) first ∙ sym b.objects) in
-    λ i. record { isa = isa i; vl = vl i; image = image i; objects = objects i }
-
-other : (words : List Text) (a b : Name) (X : Type 0) → (a ≡ b → ⊥) → Picks words a → Picks words b → X
-other words a b X differ x y = absurd (differ (name_same words a b x y))
-
-not_call_link : CallName ≡ LinkName → ⊥
-not_call_link e = cc
-
-not_call_run : CallName ≡ RunName → ⊥
-not_call_run e = cc
-
-not_link_run : LinkName ≡ RunName → ⊥
-not_link_run e = cc
+    λ i. record { unit = unit i; name = name i; arguments = arguments i }
 
 -- the words ask one thing
 pub command_same : (words : List Text) (j k : Command) → IsCommand words j → IsCommand words k → j ≡ k
-command_same words (call r) (call s) a b = ap call (call_same words r s a.1 b.1)
-command_same words (call r) (link s) a b = other words _ _ _ not_call_link a.0 b.0
-command_same words (call r) (run s) a b = other words _ _ _ not_call_run a.0 b.0
-command_same words (link r) (call s) a b = other words _ _ _ not_call_link b.0 a.0
-command_same words (link r) (link s) a b = ap link (link_same words r s a.1 b.1)
-command_same words (link r) (run s) a b = other words _ _ _ not_link_run a.0 b.0
-command_same words (run r) (call s) a b = other words _ _ _ not_call_run b.0 a.0
-command_same words (run r) (link s) a b = other words _ _ _ not_link_run b.0 a.0
-command_same words (run r) (run s) a b = ap run (run_same words r s a.1 b.1)
+command_same words (demangle r) (demangle s) a b = ap demangle (demangle_same words r s a.1 b.1)
+command_same words (demangle r) (lanes s) a b = absurd (not_both (name_same words _ _ a.0 b.0))
+command_same words (lanes r) (demangle s) a b = absurd (not_both (name_same words _ _ b.0 a.0))
+command_same words (lanes r) (lanes s) a b = ap lanes (lanes_same words r s a.1 b.1)
 
--- which name and that its table takes the words
+-- the command, and that its table takes the words
 abbrev name_of : Command → Name
-name_of (call r) = CallName
-name_of (link r) = LinkName
-name_of (run r) = RunName
+name_of (demangle r) = DemangleName
+name_of (lanes r) = LanesName
 
 picked : (words : List Text) (k : Command) → IsCommand words k → Picks words (name_of k)
-picked words (call r) a = a.0
-picked words (link r) a = a.0
-picked words (run r) a = a.0
+picked words (demangle r) a = a.0
+picked words (lanes r) a = a.0
 
 taken : (words : List Text) (k : Command) → IsCommand words k → takes (table_of (name_of k)) words ≡ true
-taken words (call r) a = a.1.taken
-taken words (link r) a = a.1.taken
-taken words (run r) a = a.1.taken
+taken words (demangle r) a = a.1.taken
+taken words (lanes r) a = a.1.taken
 
 stated : (words : List Text) (k : Command) → IsCommand words k → IsUnstated (name_of k) words → ⊥
-stated words (call r) a u = u.turns r.turns a.1.turns
-stated words (run r) a u = u.turns r.turns a.1.turns
-stated words (link r) a u = elim u.value [
-  | inl none ↦ none r.isa a.1.isa
-  | inr (inl none) ↦ none r.vl a.1.vl
-  | inr (inr many) ↦
-      let len : length r.objects ≡ length (a.1.first ∷ values_at link_table (codes "MORE") words) = ap length a.1.objects in
-      let most = a.1.most in
-      absurd (omega arith)
-]
+stated words (demangle r) a u = u
+stated words (lanes r) a u = u.isa a.1.isa
+
+unstated_taken : (name : Name) (words : List Text) → IsUnstated name words → takes (table_of name) words ≡ true
+unstated_taken DemangleName words u = absurd u
+unstated_taken LanesName words u = u.taken
+
+-- ---- rules
 
 -- where they ask something, they break no rule
 pub no_fault : (words : List Text) (k : Command) (rule : WordRule) → IsCommand words k → IsWordFault words rule → ⊥
-no_fault words k P1 a f = let p = picked words k a in let none : None ≡ Some (name_text (name_of k)) = ap first_word (sym f) ∙ p in cc
+no_fault words k P1 a f = some_word words (name_of k) f (picked words k a)
 no_fault words k P2 a f = f.1 (name_of k) (picked words k a)
 no_fault words k P3 a f =
     let same = name_same words f.0 (name_of k) f.1 (picked words k a) in
-    true≢false (sym (taken words k a) ∙ subst (λ (n : Name). takes (table_of n) words ≡ false) same f.2)
+    false≢true (sym (subst (λ (n : Name). takes (table_of n) words ≡ false) same f.2) ∙ taken words k a)
 no_fault words k P4 a f =
     let same = name_same words f.0 (name_of k) f.1 (picked words k a) in
     stated words k a (subst (λ (n : Name). IsUnstated n words) same f.2)
+
+not_taken : (words : List Text) (a b : Name) → Picks words a → Picks words b → takes (table_of a) words ≡ false → IsUnstated b words → ⊥
+not_taken words a b p q f u =
+    false≢true (sym (subst (λ (n : Name). takes (table_of n) words ≡ false) (name_same words a b p q) f) ∙ unstated_taken b words u)
+
+-- they break one rule
+pub fault_same : (words : List Text) (a b : WordRule) → IsWordFault words a → IsWordFault words b → a ≡ b
+fault_same words P1 P1 f g = refl
+fault_same words P1 P2 f g = absurd (g.0 f)
+fault_same words P1 P3 f g = absurd (some_word words g.0 f g.1)
+fault_same words P1 P4 f g = absurd (some_word words g.0 f g.1)
+fault_same words P2 P1 f g = absurd (f.0 g)
+fault_same words P2 P2 f g = refl
+fault_same words P2 P3 f g = absurd (f.1 g.0 g.1)
+fault_same words P2 P4 f g = absurd (f.1 g.0 g.1)
+fault_same words P3 P1 f g = absurd (some_word words f.0 g f.1)
+fault_same words P3 P2 f g = absurd (g.1 f.0 f.1)
+fault_same words P3 P3 f g = refl
+fault_same words P3 P4 f g = absurd (not_taken words f.0 g.0 f.1 g.1 f.2 g.2)
+fault_same words P4 P1 f g = absurd (some_word words f.0 g f.1)
+fault_same words P4 P2 f g = absurd (g.1 f.0 f.1)
+fault_same words P4 P3 f g = absurd (not_taken words g.0 f.0 g.1 f.1 g.2 f.2)
+fault_same words P4 P4 f g = refl
