@@ -20,6 +20,13 @@ pub fn describe(text: &mut String, head: &NameHead, scalar: &[u8]) -> Result<(),
     write!(text, "{scalar} isa {isa}{mask}")?;
     push_len(text, head.len)?;
     push_params(text, head.params.as_slice())?;
+    end_line(text)
+}
+
+// Adds a newline.
+fn end_line(text: &mut String) -> Result<(), AllocError>
+    ensures { OnOk result (string_bytes text.new ≡ string_bytes text.old ++ 10 ∷ []) }
+{
     text.push_str("\n")
 }
 

@@ -2,7 +2,7 @@ use Rattle.std.proofs.Common.{rules, ◌≡◌, ◌&&◌, Bool, true, false, Err
 use Rattle.std.specs.List.{list_all}
 use Rattle.clap.specs.Words.{App, Rule, Text, app_of, built, fault_of, found_of, is_simple, kind_of, matches_of, rows_of, takes, HasMatchesOf}
 use Rattle.clap.specs.Walk.{is_empty, nothing_held}
-use Rattle.clap.specs.Simple.{Shape, argumenvk_words, is_buildable}
+use Rattle.clap.specs.Simple.{Shape, argument_words, is_buildable}
 use Rattle.clap.specs.Takes.{built_takes, default_passes}
 use Rattle.clap.specs.Faults.{has_free_rules, is_free_app, is_simple_and_free}
 use Rattle.clap.specs.declared.parser.matches.ArgMatches.{ArgMatches}
@@ -23,7 +23,7 @@ taken a words t e =
     let rest = both (is_empty (built a).subs) _ simple_and_free.1 in
     let defaults = both (list_all default_passes (built a).top.rules) _ rest.1 in
     let free = both (has_free_rules (built a).top) _ simple.1 in
-    and_true _ _ simple.0 (leaf_taken (built a) nothing_held (argumenvk_words a words) (is_nil (built a).subs rest.0) free.0 defaults.0 e)
+    and_true _ _ simple.0 (leaf_taken (built a) nothing_held (argument_words a words) (is_nil (built a).subs rest.0) free.0 defaults.0 e)
 
 is_read : (c : Command) (words : List Text) (m : ArgMatches) → is_table (app_of c) ≡ true → fault_of (app_of c) words ≡ [] → HasMatchesOf (app_of c) words m
     → IsParsedFrom c m → IsRead (app_of c) words m
