@@ -26,7 +26,11 @@ pub fn optional<'a>(matches: &ArgMatches<'a>, id: &str) -> Option<&'a str>
 }
 
 /// All values of a name.
-pub fn listed<'a>(alloc: Global, matches: &ArgMatches<'a>, id: &str) -> Result<Vec<&'a str>, AllocError>
+pub fn listed<'a>(
+    alloc: Global,
+    matches: &ArgMatches<'a>,
+    id: &str,
+) -> Result<Vec<&'a str>, AllocError>
     ensures { IfOk result (λ v. unwrap_or (all_of id.now (rows_of (found_of matches.now))) [] ≡ map (λ s. s.now) v.items) }
 {
     match matches.get_strs(id) {

@@ -7,11 +7,11 @@ ghost use Rattle.vk_words.specs.Asked.{IsLink, IsLinkUnstated};
 ghost use Rattle.vk_words.specs.Views.{link_asked};
 
 use crate::getters::{listed, needed, optional};
-use vk_kinds::Isa;
 use crate::matching::{NoRequest, read};
 use crate::tables::link_command;
 use crate::values::{isa_of, vl_of};
 use std::alloc::{AllocError, Global};
+use vk_kinds::Isa;
 
 /// A link of objects.
 #[derive(Drop)]
@@ -23,7 +23,11 @@ pub struct LinkRequest<'a> {
 }
 
 // A list of one more.
-fn with_first<'a>(alloc: Global, first: &'a str, more: &[&'a str]) -> Result<Vec<&'a str>, AllocError>
+fn with_first<'a>(
+    alloc: Global,
+    first: &'a str,
+    more: &[&'a str],
+) -> Result<Vec<&'a str>, AllocError>
     ensures { IfOk result (λ v. map (λ s. s.now) v.items ≡ first.entry.now ∷ map (λ s. s.now) more.now) }
 {
     let mut all = Vec::new(alloc);

@@ -3,12 +3,11 @@
 ghost use Rattle.std.specs.Prelude.{◌≡◌, IfOk, IsErrOf, IsTrue, false, map, string_bytes};
 ghost use Rattle.clap.specs.Words.{app_of, takes};
 ghost use Rattle.vk_words.specs.Reading.{IsRead, is_table};
-
-use clap::error::ErrorKind;
 ghost use Rattle.vk_words.specs.declared.matching.NoRequest.TheVariants.{Memory};
 
-use std::alloc::AllocError;
+use clap::error::ErrorKind;
 use clap::{ArgMatches, Command};
+use std::alloc::AllocError;
 
 /// Why words ask nothing: the command does not take them, a value is not a stated one, or memory ran out.
 #[derive(Clone, Copy, PartialEq, Eq, Debug)]
