@@ -1,5 +1,1 @@
-pub mod Answers
-pub mod Demangle
-pub mod Outcome
-pub mod Request
-pub mod Units
+pub mod Unasked

@@ -2,3 +2,4 @@ pub mod Counting
 pub mod Grown
 mod Sofar
 mod Fronts
+mod Pieces

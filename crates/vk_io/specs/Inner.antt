@@ -1,4 +1,5 @@
 -- Definitions on which no public contract's meaning rests: what the code's own functions tell each other.
+pub mod Lines
 pub mod Tally
 pub mod Schedule
 pub mod FileMap

@@ -1,6 +1,7 @@
 pub mod Counts
 pub mod Store
 pub mod Sink
+pub mod Lines
 pub mod MemStore
 pub mod MemSink
 pub mod PureStore

@@ -1,20 +1,13 @@
 -- What a store in memory holds.
-use Rattle.std.specs.Prelude.{ℕ, List, Option}
+use Rattle.std.specs.Prelude.{ℕ, List, true}
 use Rattle.vk_io.specs.Inner.FileMap.{contents}
 use Rattle.vk_io.specs.Inner.Tally.{count_of}
+use Rattle.vk_io.specs.Store.{StoreState}
 use Rattle.vk_io.specs.declared.memory_store.MemStore.{MemStore}
 
--- the bytes of a name's file
-abbrev pub stored : MemStore → List ℕ → Option (List ℕ)
-stored store = contents store.files
-
--- the read count of a name
-abbrev pub reads_of : MemStore → List ℕ → ℕ
-reads_of store = count_of store.reads
-
--- the write count of a name
-abbrev pub writes_of : MemStore → List ℕ → ℕ
-writes_of store = count_of store.writes
+-- its files, which it tells, and its counts
+abbrev pub state_of : MemStore → StoreState
+state_of store = record { tells = true; file = contents store.files; reads = count_of store.reads; writes = count_of store.writes }
 
 -- the numbers of the calls that are to fail
 abbrev pub failing_of : MemStore → List ℕ

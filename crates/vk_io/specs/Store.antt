@@ -1,6 +1,15 @@
--- What the calls of a store do to its files. A file is the list of its bytes, and an absent one is None.
-use Rattle.std.specs.Prelude.{◌≡◌, ◌≢◌, ℕ, ◌-◌, ◌<◌, ◌≤◌, ◌⊎◌, List, [], ◌++◌, length, take, drop, Option, None, Some, Result, IsErr, IfOk, MatchResult}
+-- What a store holds, and what its calls do to it. A file is the list of its bytes, and an absent one is None.
+use Rattle.std.specs.Prelude.{◌≡◌, ◌≢◌, ℕ, ◌-◌, ◌<◌, ◌≤◌, ◌⊎◌, Bool, List, [], ◌∷◌, ◌++◌, length, take, drop, Option, None, Some, Result, IsErr, IfOk, MatchResult}
+use Rattle.vk_io.specs.Counts.{CountsOf, SameCounts}
 use Rattle.vk_io.specs.declared.outside.Outside.{Outside}
+
+-- what a store holds: whether it tells its files, the bytes of each name's file where it does, and for each name how often
+-- reading and writing failed
+pub record StoreState : Type 0 where
+  pub tells : Bool
+  pub file : List ℕ → Option (List ℕ)
+  pub reads : List ℕ → ℕ
+  pub writes : List ℕ → ℕ
 
 -- no file changed
 abbrev pub SameFiles : (List ℕ → Option (List ℕ)) → (List ℕ → Option (List ℕ)) → Type 0
@@ -9,6 +18,20 @@ SameFiles old new = (q : List ℕ) → new q ≡ old q
 -- no file changed but this name's
 abbrev pub OtherFilesStay : List ℕ → (List ℕ → Option (List ℕ)) → (List ℕ → Option (List ℕ)) → Type 0
 OtherFilesStay name old new = (q : List ℕ) → q ≢ name → new q ≡ old q
+
+-- what stays where these names are read: all but their read counts, which do not fall
+pub record Reads (names : List (List ℕ)) (before now : StoreState) : Type 0 where
+  pub tells : now.tells ≡ before.tells
+  pub file : SameFiles before.file now.file
+  pub reads : CountsOf names before.reads now.reads
+  pub writes : SameCounts before.writes now.writes
+
+-- what stays where this name is written: all but its file and its write count, which does not fall
+pub record Writes (name : List ℕ) (before now : StoreState) : Type 0 where
+  pub tells : now.tells ≡ before.tells
+  pub file : OtherFilesStay name before.file now.file
+  pub reads : SameCounts before.reads now.reads
+  pub writes : CountsOf (name ∷ []) before.writes now.writes
 
 -- the first n bytes of a buffer are those of a file from `at` on, and none only at the file's end
 pub record GivesFrom (bytes : List ℕ) (at n : ℕ) (into : List ℕ) : Type 0 where

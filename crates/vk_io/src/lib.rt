@@ -21,7 +21,7 @@ mod whole;
 mod words;
 
 pub use directory::DirStore;
-pub use lines::put_lines;
+pub use lines::{Lines, put_lines};
 pub use memory_sink::MemSink;
 pub use memory_store::MemStore;
 pub use outside::Outside;

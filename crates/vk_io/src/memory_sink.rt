@@ -1,8 +1,8 @@
 //! A sink in memory, whose faults are chosen beforehand.
-ghost use Rattle.std.specs.Prelude.{◌≡◌, ℕ, ◌++◌, ◌≤◌, [], true, false, IsErr, IsErrOf, IfOk, OnOk, OnErr};
-ghost use Rattle.vk_io.specs.Counts.{Rose, next_count};
+ghost use Rattle.std.specs.Prelude.{◌≡◌, [], IsErrOf, IfOk, OnErr};
+ghost use Rattle.vk_io.specs.Counts.{CountsFault, Rose, next_count};
 ghost use Rattle.vk_io.specs.Inner.Schedule.{IsListed};
-ghost use Rattle.vk_io.specs.Sink.{Puts};
+ghost use Rattle.vk_io.specs.Sink.{Puts, Stays};
 
 use crate::outside::Outside;
 use crate::schedule::Schedule;
@@ -22,14 +22,14 @@ pub struct MemSink {
 }
 
 impl MemSink {
-    ghost use Rattle.vk_io.specs.MemSink.{sink_bytes, faults_of, failing_of, calls_of};
+    ghost use Rattle.vk_io.specs.MemSink.{state_of, failing_of};
 
     /// A sink with no bytes, whose calls of the numbers `failing` are to fail.
     pub fn new(alloc: Global, failing: &[u64]) -> Result<MemSink, Memory>
-        ensures empty { IfOk result (λ sink. sink_bytes sink ≡ []) }
-        ensures faults { IfOk result (λ sink. faults_of sink ≡ 0) }
+        ensures empty { IfOk result (λ sink. (state_of sink).bytes ≡ []) }
+        ensures faults { IfOk result (λ sink. (state_of sink).faults ≡ 0) }
         ensures failing { IfOk result (λ sink. failing_of sink ≡ failing.now) }
-        ensures calls { IfOk result (λ sink. calls_of sink ≡ 0) }
+        ensures calls { IfOk result (λ sink. (state_of sink).calls ≡ 0) }
     {
         Ok(MemSink {
             bytes: Vec::new(alloc),
@@ -40,43 +40,34 @@ impl MemSink {
 
     /// The bytes so far.
     pub fn bytes(&self) -> &[u8]
-        ensures { result.now ≡ sink_bytes self.now }
+        ensures { result.now ≡ (state_of self.now).bytes }
     {
         &self.bytes
     }
 
-    /// A sink in memory tells its bytes and is not lean, and its trait's words are these.
+    /// What the trait says of a sink in memory is `state_of` of its module in `specs/`.
     pub fn tells_its_bytes(sink: &MemSink)
-        ensures tells { ⟦<MemSink as Sink>⟧.tells sink.now ≡ true }
-        ensures bytes { ⟦<MemSink as Sink>⟧.bytes sink.now ≡ sink_bytes sink.now }
-        ensures faults { ⟦<MemSink as Sink>⟧.faults sink.now ≡ faults_of sink.now }
-        ensures lean { ⟦<MemSink as Sink>⟧.is_lean sink.now ≡ false }
+        ensures { ⟦<MemSink as Sink>⟧.state sink.now ≡ state_of sink.now }
     {}
 }
 
 impl Sink for MemSink {
-    ghost use Rattle.vk_io.specs.MemSink.{sink_bytes, faults_of, failing_of, calls_of};
+    ghost use Rattle.vk_io.specs.MemSink.{state_of, failing_of};
 
-    ghost tells = { λ _. true };
-
-    ghost bytes = { λ sink. sink.bytes.items };
-
-    ghost faults = { λ sink. sink.faults };
-
-    ghost is_lean = { λ _. false };
+    ghost state = { state_of };
 
     fn put(&mut self, piece: &[u8]) -> Result<(), Outside>
-        ensures put { Puts (sink_bytes self.old) (sink_bytes self.new) result piece.now }
-        ensures err { OnErr result (sink_bytes self.new ≡ sink_bytes self.old) }
+        ensures put { Puts (state_of self.old).bytes (state_of self.new).bytes result piece.now }
+        ensures failed { IsErrOf result Outside.Failed → Rose (state_of self.old).faults (state_of self.new).faults }
+        ensures calls { (state_of self.new).calls ≡ next_count (state_of self.old).calls }
+        ensures stays { Stays (state_of self.old) (state_of self.new) }
 
-        ensures failed { IsErrOf result Outside.Failed → Rose (faults_of self.old) (faults_of self.new) }
-        ensures later { faults_of self.old ≤ faults_of self.new }
-
-        // It fails exactly at the listed calls.
-        ensures listed { IsListed (failing_of self.old) (calls_of self.old) → IsErrOf result Outside.Failed }
-        ensures unlisted { IsErrOf result Outside.Failed → IsListed (failing_of self.old) (calls_of self.old) }
+        // It fails exactly at the listed calls, and adds nothing where it fails.
+        ensures listed { IsListed (failing_of self.old) (state_of self.old).calls → IsErrOf result Outside.Failed }
+        ensures unlisted { IsErrOf result Outside.Failed → IsListed (failing_of self.old) (state_of self.old).calls }
+        ensures counted { CountsFault result (state_of self.old).faults (state_of self.new).faults }
+        ensures err { OnErr result ((state_of self.new).bytes ≡ (state_of self.old).bytes) }
         ensures failing { failing_of self.new ≡ failing_of self.old }
-        ensures calls { calls_of self.new ≡ next_count (calls_of self.old) }
     {
         if self.schedule.next_fails() {
             self.faults = self.faults.saturating_add(1);

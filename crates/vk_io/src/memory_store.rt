@@ -1,10 +1,8 @@
 //! A store in memory, whose faults are chosen beforehand.
-ghost use Rattle.std.specs.Prelude.{◌≡◌, ◌≢◌, ℕ, ◌≤◌, ◌⊎◌, List, true, Some, None, IsNone, IsErr, IsErrOf, IfOk, OnOk, OnErr, length};
-ghost use Rattle.vk_io.specs.Counts.{Rose, CountsOf, SameCounts, next_count};
-ghost use Rattle.vk_io.specs.Inner.FileMap.{contents};
+ghost use Rattle.std.specs.Prelude.{◌≡◌, ◌≢◌, ℕ, ◌≤◌, ◌⊎◌, List, [], ◌∷◌, Some, None, IsNone, IsErr, IsErrOf, IfOk, OnOk, OnErr, length};
+ghost use Rattle.vk_io.specs.Counts.{CountsFailure, Rose, SameCounts, next_count};
 ghost use Rattle.vk_io.specs.Inner.Schedule.{IsListed};
-ghost use Rattle.vk_io.specs.Store.{SameFiles, OtherFilesStay, Fills, Starts, AppendsTo};
-ghost use Rattle.vk_io.specs.Inner.Tally.{count_of};
+ghost use Rattle.vk_io.specs.Store.{SameFiles, OtherFilesStay, Fills, Starts, AppendsTo, Reads, Writes};
 
 use crate::file_map::{FileMap, copy_from};
 use crate::outside::Outside;
@@ -28,15 +26,15 @@ pub struct MemStore {
 }
 
 impl MemStore {
-    ghost use Rattle.vk_io.specs.MemStore.{stored, reads_of, writes_of, failing_of, calls_of};
+    ghost use Rattle.vk_io.specs.MemStore.{state_of, failing_of, calls_of};
 
     /// A store with no file, whose calls of the numbers `failing` are to fail.
     pub fn new(alloc: Global, failing: &[u64]) -> Result<MemStore, Memory>
-        ensures empty { IfOk result (λ store. (q : List ℕ) → stored store q ≡ None) }
+        ensures empty { IfOk result (λ store. (q : List ℕ) → (state_of store).file q ≡ None) }
         ensures failing { IfOk result (λ store. failing_of store ≡ failing.now) }
         ensures calls { IfOk result (λ store. calls_of store ≡ 0) }
-        ensures reads { IfOk result (λ store. (q : List ℕ) → reads_of store q ≡ 0) }
-        ensures writes { IfOk result (λ store. (q : List ℕ) → writes_of store q ≡ 0) }
+        ensures reads { IfOk result (λ store. (q : List ℕ) → (state_of store).reads q ≡ 0) }
+        ensures writes { IfOk result (λ store. (q : List ℕ) → (state_of store).writes q ≡ 0) }
     {
         Ok(MemStore {
             alloc,
@@ -49,50 +47,39 @@ impl MemStore {
 
     /// Gives the file `name` the contents `bytes`. This is no numbered call.
     pub fn set(&mut self, name: &str, bytes: &[u8]) -> Result<(), Memory>
-        ensures ok { OnOk result (stored self.new name.now ≡ Some bytes.now) }
-        ensures err { OnErr result (SameFiles (stored self.old) (stored self.new)) }
-        ensures others { OtherFilesStay name.now (stored self.old) (stored self.new) }
-        ensures reads { SameCounts (reads_of self.old) (reads_of self.new) }
-        ensures writes { SameCounts (writes_of self.old) (writes_of self.new) }
+        ensures ok { OnOk result ((state_of self.new).file name.now ≡ Some bytes.now) }
+        ensures err { OnErr result (SameFiles (state_of self.old).file (state_of self.new).file) }
+        ensures others { OtherFilesStay name.now (state_of self.old).file (state_of self.new).file }
+        ensures reads { SameCounts (state_of self.old).reads (state_of self.new).reads }
+        ensures writes { SameCounts (state_of self.old).writes (state_of self.new).writes }
         ensures failing { failing_of self.new ≡ failing_of self.old }
         ensures calls { calls_of self.new ≡ calls_of self.old }
     {
         self.files.set(name, bytes)
     }
 
-    /// A store in memory tells its files, and its trait's words are these.
+    /// What the trait says of a store in memory is `state_of` of its module in `specs/`.
     pub fn tells_its_files(store: &MemStore)
-        ensures tells { ⟦<MemStore as Store>⟧.tells store.now ≡ true }
-        ensures file { (q : List ℕ) → ⟦<MemStore as Store>⟧.file store.now q ≡ stored store.now q }
-        ensures reads { (q : List ℕ) → ⟦<MemStore as Store>⟧.reads store.now q ≡ reads_of store.now q }
-        ensures writes { (q : List ℕ) → ⟦<MemStore as Store>⟧.writes store.now q ≡ writes_of store.now q }
+        ensures { ⟦<MemStore as Store>⟧.state store.now ≡ state_of store.now }
     {}
 }
 
 impl Store for MemStore {
-    ghost use Rattle.vk_io.specs.MemStore.{stored, reads_of, writes_of, failing_of, calls_of};
+    ghost use Rattle.vk_io.specs.MemStore.{state_of, failing_of, calls_of};
 
-    ghost tells = { λ _. true };
-
-    ghost file = { λ store q. contents store.files q };
-
-    ghost reads = { λ store q. count_of store.reads q };
-
-    ghost writes = { λ store q. count_of store.writes q };
+    ghost state = { state_of };
 
     fn fill(&mut self, name: &str, at: u64, into: &mut [u8]) -> Result<usize, Outside>
         ensures bound { IfOk result (λ n. n ≤ length into.new) }
-        ensures bytes { Fills (stored self.old name.now) at result into.new }
-        ensures same { SameFiles (stored self.old) (stored self.new) }
-
-        ensures failed { IsErrOf result Outside.Failed → Rose (reads_of self.old name.now) (reads_of self.new name.now) }
-        ensures reads { CountsOf name.now (reads_of self.old) (reads_of self.new) }
-        ensures writes { SameCounts (writes_of self.old) (writes_of self.new) }
+        ensures bytes { Fills ((state_of self.old).file name.now) at result into.new }
+        ensures failed { IsErrOf result Outside.Failed → Rose ((state_of self.old).reads name.now) ((state_of self.new).reads name.now) }
+        ensures stays { Reads (name.now ∷ []) (state_of self.old) (state_of self.new) }
 
         // It fails where its number is listed, and changes no file where it fails.
         ensures listed { IsListed (failing_of self.old) (calls_of self.old) → IsErr result }
         ensures unlisted { IsErrOf result Outside.Failed →
-            IsListed (failing_of self.old) (calls_of self.old) ⊎ IsNone (stored self.old name.now) }
+            IsListed (failing_of self.old) (calls_of self.old) ⊎ IsNone ((state_of self.old).file name.now) }
+        ensures counted { CountsFailure result name.now (state_of self.old).reads (state_of self.new).reads }
         ensures failing { failing_of self.new ≡ failing_of self.old }
         ensures calls { calls_of self.new ≡ next_count (calls_of self.old) }
     {
@@ -108,17 +95,15 @@ impl Store for MemStore {
     }
 
     fn start(&mut self, name: &str) -> Result<(), Outside>
-        ensures started { Starts (stored self.old name.now) (stored self.new name.now) result }
-        ensures others { OtherFilesStay name.now (stored self.old) (stored self.new) }
-
-        ensures failed { IsErrOf result Outside.Failed → Rose (writes_of self.old name.now) (writes_of self.new name.now) }
-        ensures writes { CountsOf name.now (writes_of self.old) (writes_of self.new) }
-        ensures reads { SameCounts (reads_of self.old) (reads_of self.new) }
+        ensures started { Starts ((state_of self.old).file name.now) ((state_of self.new).file name.now) result }
+        ensures failed { IsErrOf result Outside.Failed → Rose ((state_of self.old).writes name.now) ((state_of self.new).writes name.now) }
+        ensures stays { Writes name.now (state_of self.old) (state_of self.new) }
 
         // It fails where its number is listed, and changes no file where it fails.
         ensures listed { IsListed (failing_of self.old) (calls_of self.old) → IsErr result }
         ensures unlisted { IsErrOf result Outside.Failed → IsListed (failing_of self.old) (calls_of self.old) }
-        ensures same { OnErr result (SameFiles (stored self.old) (stored self.new)) }
+        ensures counted { CountsFailure result name.now (state_of self.old).writes (state_of self.new).writes }
+        ensures same { OnErr result (SameFiles (state_of self.old).file (state_of self.new).file) }
         ensures failing { failing_of self.new ≡ failing_of self.old }
         ensures calls { calls_of self.new ≡ next_count (calls_of self.old) }
     {
@@ -133,17 +118,15 @@ impl Store for MemStore {
     }
 
     fn append(&mut self, name: &str, bytes: &[u8]) -> Result<(), Outside>
-        ensures appended { AppendsTo (stored self.old name.now) (stored self.new name.now) result bytes.now }
-        ensures others { OtherFilesStay name.now (stored self.old) (stored self.new) }
-
-        ensures failed { IsErrOf result Outside.Failed → Rose (writes_of self.old name.now) (writes_of self.new name.now) }
-        ensures writes { CountsOf name.now (writes_of self.old) (writes_of self.new) }
-        ensures reads { SameCounts (reads_of self.old) (reads_of self.new) }
+        ensures appended { AppendsTo ((state_of self.old).file name.now) ((state_of self.new).file name.now) result bytes.now }
+        ensures failed { IsErrOf result Outside.Failed → Rose ((state_of self.old).writes name.now) ((state_of self.new).writes name.now) }
+        ensures stays { Writes name.now (state_of self.old) (state_of self.new) }
 
         // It fails where its number is listed, and changes no file where it fails.
         ensures listed { IsListed (failing_of self.old) (calls_of self.old) → IsErr result }
         ensures unlisted { IsErrOf result Outside.Failed → IsListed (failing_of self.old) (calls_of self.old) }
-        ensures same { OnErr result (SameFiles (stored self.old) (stored self.new)) }
+        ensures counted { CountsFailure result name.now (state_of self.old).writes (state_of self.new).writes }
+        ensures same { OnErr result (SameFiles (state_of self.old).file (state_of self.new).file) }
         ensures failing { failing_of self.new ≡ failing_of self.old }
         ensures calls { calls_of self.new ≡ next_count (calls_of self.old) }
     {

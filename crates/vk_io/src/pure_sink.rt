@@ -1,6 +1,7 @@
 //! A sink in memory without faults.
-ghost use Rattle.std.specs.Prelude.{◌≡◌, ◌++◌, [], true, false, IsErrOf, IfOk, OnErr};
-ghost use Rattle.vk_io.specs.Sink.{Puts};
+ghost use Rattle.std.specs.Prelude.{◌≡◌, [], IsErrOf, IfOk, OnErr};
+ghost use Rattle.vk_io.specs.Counts.{next_count};
+ghost use Rattle.vk_io.specs.Sink.{Puts, Stays};
 
 use crate::outside::Outside;
 use crate::sink::Sink;
@@ -9,59 +10,55 @@ use vk_memory::Memory;
 
 /// A sink that keeps its bytes in memory and tells them.
 ///
-/// It has no faults, so its count is always 0. It is not lean.
+/// It has no faults, so that count is always 0. It is not lean.
 #[derive(Drop)]
 pub struct PureSink {
     bytes: Vec<u8>,
+    calls: u64,
 }
 
 impl PureSink {
-    ghost use Rattle.vk_io.specs.PureSink.{sink_bytes};
+    ghost use Rattle.vk_io.specs.PureSink.{state_of};
 
     /// A sink with no bytes.
     pub fn new(alloc: Global) -> Result<PureSink, Memory>
-        ensures { IfOk result (λ sink. sink_bytes sink ≡ []) }
+        ensures empty { IfOk result (λ sink. (state_of sink).bytes ≡ []) }
+        ensures calls { IfOk result (λ sink. (state_of sink).calls ≡ 0) }
     {
         Ok(PureSink {
             bytes: Vec::new(alloc),
+            calls: 0,
         })
     }
 
     /// The bytes so far.
     pub fn bytes(&self) -> &[u8]
-        ensures { result.now ≡ sink_bytes self.now }
+        ensures { result.now ≡ (state_of self.now).bytes }
     {
         &self.bytes
     }
 
-    /// A pure sink tells its bytes and is not lean, its trait's words are these, and its count of
-    /// faults is 0.
+    /// What the trait says of a pure sink is `state_of` of its module in `specs/`.
     pub fn tells_its_bytes(sink: &PureSink)
-        ensures tells { ⟦<PureSink as Sink>⟧.tells sink.now ≡ true }
-        ensures bytes { ⟦<PureSink as Sink>⟧.bytes sink.now ≡ sink_bytes sink.now }
-        ensures faults { ⟦<PureSink as Sink>⟧.faults sink.now ≡ 0 }
-        ensures lean { ⟦<PureSink as Sink>⟧.is_lean sink.now ≡ false }
+        ensures { ⟦<PureSink as Sink>⟧.state sink.now ≡ state_of sink.now }
     {}
 }
 
 impl Sink for PureSink {
-    ghost use Rattle.vk_io.specs.PureSink.{sink_bytes};
+    ghost use Rattle.vk_io.specs.PureSink.{state_of};
 
-    ghost tells = { λ _. true };
-
-    ghost bytes = { λ sink. sink.bytes.items };
-
-    ghost faults = { λ _. 0 };
-
-    ghost is_lean = { λ _. false };
+    ghost state = { state_of };
 
     fn put(&mut self, piece: &[u8]) -> Result<(), Outside>
-        ensures put { Puts (sink_bytes self.old) (sink_bytes self.new) result piece.now }
-        ensures err { OnErr result (sink_bytes self.new ≡ sink_bytes self.old) }
+        ensures put { Puts (state_of self.old).bytes (state_of self.new).bytes result piece.now }
+        ensures failed { IsErrOf result Outside.Failed → ⊥ }
+        ensures calls { (state_of self.new).calls ≡ next_count (state_of self.old).calls }
+        ensures stays { Stays (state_of self.old) (state_of self.new) }
 
-        // It never answers `Failed`.
-        ensures never { IsErrOf result Outside.Failed → ⊥ }
+        // It adds nothing where it answers `Memory`.
+        ensures err { OnErr result ((state_of self.new).bytes ≡ (state_of self.old).bytes) }
     {
+        self.calls = self.calls.saturating_add(1);
         self.bytes.extend_from_slice(piece)?;
         Ok(())
     }

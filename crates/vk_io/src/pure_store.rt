@@ -1,9 +1,7 @@
 //! A store in memory that fails only where a file is absent.
-ghost use Rattle.std.specs.Prelude.{◌≡◌, ◌≢◌, ℕ, ◌≤◌, ◌↔◌, ◌⊎◌, List, true, Some, None, IsSome, IsNone, IsErr, IsErrOf, IfOk, OnOk, OnErr, length};
-ghost use Rattle.vk_io.specs.Counts.{Rose, CountsOf, SameCounts};
-ghost use Rattle.vk_io.specs.Inner.FileMap.{contents};
-ghost use Rattle.vk_io.specs.Store.{SameFiles, OtherFilesStay, Fills, Starts, AppendsTo};
-ghost use Rattle.vk_io.specs.Inner.Tally.{count_of};
+ghost use Rattle.std.specs.Prelude.{◌≡◌, ℕ, ◌≤◌, ◌↔◌, List, [], ◌∷◌, Some, None, IsNone, IsErr, IsErrOf, IfOk, OnOk, OnErr, length};
+ghost use Rattle.vk_io.specs.Counts.{CountsFailure, Rose, SameCounts};
+ghost use Rattle.vk_io.specs.Store.{SameFiles, OtherFilesStay, Fills, Starts, AppendsTo, Reads, Writes};
 
 use crate::file_map::{FileMap, copy_from};
 use crate::outside::Outside;
@@ -24,12 +22,12 @@ pub struct PureStore {
 }
 
 impl PureStore {
-    ghost use Rattle.vk_io.specs.PureStore.{stored, reads_of};
+    ghost use Rattle.vk_io.specs.PureStore.{state_of};
 
     /// A store with no file.
     pub fn new(alloc: Global) -> Result<PureStore, Memory>
-        ensures empty { IfOk result (λ store. (q : List ℕ) → stored store q ≡ None) }
-        ensures reads { IfOk result (λ store. (q : List ℕ) → reads_of store q ≡ 0) }
+        ensures empty { IfOk result (λ store. (q : List ℕ) → (state_of store).file q ≡ None) }
+        ensures reads { IfOk result (λ store. (q : List ℕ) → (state_of store).reads q ≡ 0) }
     {
         Ok(PureStore {
             alloc,
@@ -40,46 +38,34 @@ impl PureStore {
 
     /// Gives the file `name` the contents `bytes`.
     pub fn set(&mut self, name: &str, bytes: &[u8]) -> Result<(), Memory>
-        ensures ok { OnOk result (stored self.new name.now ≡ Some bytes.now) }
-        ensures err { OnErr result (SameFiles (stored self.old) (stored self.new)) }
-        ensures others { OtherFilesStay name.now (stored self.old) (stored self.new) }
-        ensures reads { SameCounts (reads_of self.old) (reads_of self.new) }
+        ensures ok { OnOk result ((state_of self.new).file name.now ≡ Some bytes.now) }
+        ensures err { OnErr result (SameFiles (state_of self.old).file (state_of self.new).file) }
+        ensures others { OtherFilesStay name.now (state_of self.old).file (state_of self.new).file }
+        ensures reads { SameCounts (state_of self.old).reads (state_of self.new).reads }
     {
         self.files.set(name, bytes)
     }
 
-    /// A pure store tells its files, its trait's words are these, and its write counts are 0.
+    /// What the trait says of a pure store is `state_of` of its module in `specs/`.
     pub fn tells_its_files(store: &PureStore)
-        ensures tells { ⟦<PureStore as Store>⟧.tells store.now ≡ true }
-        ensures file { (q : List ℕ) → ⟦<PureStore as Store>⟧.file store.now q ≡ stored store.now q }
-        ensures reads { (q : List ℕ) → ⟦<PureStore as Store>⟧.reads store.now q ≡ reads_of store.now q }
-        ensures writes { (q : List ℕ) → ⟦<PureStore as Store>⟧.writes store.now q ≡ 0 }
+        ensures { ⟦<PureStore as Store>⟧.state store.now ≡ state_of store.now }
     {}
 }
 
 impl Store for PureStore {
-    ghost use Rattle.vk_io.specs.PureStore.{stored, reads_of};
+    ghost use Rattle.vk_io.specs.PureStore.{state_of};
 
-    ghost tells = { λ _. true };
-
-    ghost file = { λ store q. contents store.files q };
-
-    ghost reads = { λ store q. count_of store.reads q };
-
-    ghost writes = { λ _ _. 0 };
+    ghost state = { state_of };
 
     fn fill(&mut self, name: &str, at: u64, into: &mut [u8]) -> Result<usize, Outside>
         ensures bound { IfOk result (λ n. n ≤ length into.new) }
-        ensures bytes { Fills (stored self.old name.now) at result into.new }
-        ensures same { SameFiles (stored self.old) (stored self.new) }
+        ensures bytes { Fills ((state_of self.old).file name.now) at result into.new }
+        ensures failed { IsErrOf result Outside.Failed → Rose ((state_of self.old).reads name.now) ((state_of self.new).reads name.now) }
+        ensures stays { Reads (name.now ∷ []) (state_of self.old) (state_of self.new) }
 
-        ensures failed { IsErrOf result Outside.Failed → Rose (reads_of self.old name.now) (reads_of self.new name.now) }
-        ensures reads { CountsOf name.now (reads_of self.old) (reads_of self.new) }
-
-        // It fails exactly at an absent name, and no count rises but where it answers `Failed`.
-        ensures absent { IsErr result ↔ IsNone (stored self.old name.now) }
-        ensures present { IsSome (stored self.old name.now) → SameCounts (reads_of self.old) (reads_of self.new) }
-        ensures memory { IsErrOf result Outside.Memory → SameCounts (reads_of self.old) (reads_of self.new) }
+        // It fails exactly at an absent name, and a count rises only where it answers `Failed`.
+        ensures absent { IsErr result ↔ IsNone ((state_of self.old).file name.now) }
+        ensures counted { CountsFailure result name.now (state_of self.old).reads (state_of self.new).reads }
     {
         match self.files.get(name) {
             Some(bytes) => Ok(copy_from(bytes, at, into)),
@@ -92,26 +78,24 @@ impl Store for PureStore {
     }
 
     fn start(&mut self, name: &str) -> Result<(), Outside>
-        ensures started { Starts (stored self.old name.now) (stored self.new name.now) result }
-        ensures others { OtherFilesStay name.now (stored self.old) (stored self.new) }
-        ensures reads { SameCounts (reads_of self.old) (reads_of self.new) }
+        ensures started { Starts ((state_of self.old).file name.now) ((state_of self.new).file name.now) result }
+        ensures failed { IsErrOf result Outside.Failed → ⊥ }
+        ensures stays { Writes name.now (state_of self.old) (state_of self.new) }
 
-        // It never answers `Failed`, and changes no file where it answers `Memory`.
-        ensures never { IsErrOf result Outside.Failed → ⊥ }
-        ensures same { OnErr result (SameFiles (stored self.old) (stored self.new)) }
+        // It changes no file where it answers `Memory`.
+        ensures same { OnErr result (SameFiles (state_of self.old).file (state_of self.new).file) }
     {
         self.files.set(name, &[])?;
         Ok(())
     }
 
     fn append(&mut self, name: &str, bytes: &[u8]) -> Result<(), Outside>
-        ensures appended { AppendsTo (stored self.old name.now) (stored self.new name.now) result bytes.now }
-        ensures others { OtherFilesStay name.now (stored self.old) (stored self.new) }
-        ensures reads { SameCounts (reads_of self.old) (reads_of self.new) }
+        ensures appended { AppendsTo ((state_of self.old).file name.now) ((state_of self.new).file name.now) result bytes.now }
+        ensures failed { IsErrOf result Outside.Failed → ⊥ }
+        ensures stays { Writes name.now (state_of self.old) (state_of self.new) }
 
-        // It never answers `Failed`, and changes no file where it answers `Memory`.
-        ensures never { IsErrOf result Outside.Failed → ⊥ }
-        ensures same { OnErr result (SameFiles (stored self.old) (stored self.new)) }
+        // It changes no file where it answers `Memory`.
+        ensures same { OnErr result (SameFiles (state_of self.old).file (state_of self.new).file) }
     {
         self.files.append(name, bytes)?;
         Ok(())

@@ -1,35 +1,25 @@
 //! Sinks of bytes.
-ghost use Rattle.std.specs.Prelude.{◌≡◌, ℕ, ◌≤◌, List, Bool, IsTrue, IsErrOf};
-ghost use Rattle.vk_io.specs.Counts.{Rose};
-ghost use Rattle.vk_io.specs.Sink.{Puts};
+ghost use Rattle.std.specs.Prelude.{◌≡◌, IsTrue, IsErrOf};
+ghost use Rattle.vk_io.specs.Counts.{Rose, next_count};
+ghost use Rattle.vk_io.specs.Sink.{Puts, SinkState, Stays};
 
 use crate::outside::Outside;
 
 /// A place for bytes, each `put` behind the last, which may fail at any call.
 ///
-/// A sink counts its faults. A `put` answers `Failed` only where the count rose, and `Memory` for
-/// want of memory, which a lean sink never has. The count never falls, and stays at 2^64 - 1.
+/// A sink counts its calls and its faults. A `put` answers `Failed` only where the count of faults
+/// rose, and `Memory` for want of memory, which a lean sink never has. No count falls, and a count
+/// of 2^64 - 1 stays there.
 pub trait Sink {
-    /// Whether the bytes are told. Where they are not, no clause says which bytes were put.
-    ghost tells: { Self → Bool };
-
-    /// The bytes so far.
-    ghost bytes: { Self → List ℕ };
-
-    /// The count of faults.
-    ghost faults: { Self → ℕ };
-
-    /// Whether the sink needs no memory.
-    ghost is_lean: { Self → Bool };
+    /// Whether the sink tells its bytes, the bytes where it does, its counts, and whether it is
+    /// lean.
+    ghost state: { Self → SinkState };
 
     /// Adds all of the bytes of `piece`. Where it does not answer `Ok`, a front of them was added.
     fn put(&mut self, piece: &[u8]) -> Result<(), Outside>
-        ensures put { IsTrue (tells self.old) → Puts (bytes self.old) (bytes self.new) result piece.now }
-
-        ensures failed { IsErrOf result Outside.Failed → Rose (faults self.old) (faults self.new) }
-        ensures memory { IsTrue (is_lean self.old) → IsErrOf result Outside.Memory → ⊥ }
-
-        ensures later { faults self.old ≤ faults self.new }
-        ensures lean { is_lean self.new ≡ is_lean self.old }
-        ensures tells { tells self.new ≡ tells self.old };
+        ensures put { IsTrue (state self.old).tells → Puts (state self.old).bytes (state self.new).bytes result piece.now }
+        ensures failed { IsErrOf result Outside.Failed → Rose (state self.old).faults (state self.new).faults }
+        ensures memory { IsTrue (state self.old).is_lean → IsErrOf result Outside.Memory → ⊥ }
+        ensures calls { (state self.new).calls ≡ next_count (state self.old).calls }
+        ensures stays { Stays (state self.old) (state self.new) };
 }

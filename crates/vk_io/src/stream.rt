@@ -11,29 +11,30 @@ use std::io::Write;
 #[derive(Drop)]
 pub struct StreamSink<W: Write + Drop> {
     writer: W,
+    calls: u64,
     faults: u64,
 }
 
 impl<W: Write + Drop> StreamSink<W> {
     /// A sink over `writer` with no faults yet.
     pub fn new(writer: W) -> StreamSink<W>
-        ensures faults { ⟦<StreamSink<W> as Sink>⟧.faults result ≡ 0 }
-        ensures lean { ⟦<StreamSink<W> as Sink>⟧.is_lean result ≡ true }
+        ensures calls { (⟦<StreamSink<W> as Sink>⟧.state result).calls ≡ 0 }
+        ensures faults { (⟦<StreamSink<W> as Sink>⟧.state result).faults ≡ 0 }
+        ensures lean { (⟦<StreamSink<W> as Sink>⟧.state result).is_lean ≡ true }
     {
-        StreamSink { writer, faults: 0 }
+        StreamSink {
+            writer,
+            calls: 0,
+            faults: 0,
+        }
     }
 }
 
 impl<W: Write + Drop> Sink for StreamSink<W> {
-    ghost tells = { λ _. false };
-
-    ghost bytes = { λ _. [] };
-
-    ghost faults = { λ sink. sink.faults };
-
-    ghost is_lean = { λ _. true };
+    ghost state = { λ sink. record { tells = false; bytes = []; calls = sink.calls; faults = sink.faults; is_lean = true } };
 
     fn put(&mut self, piece: &[u8]) -> Result<(), Outside> {
+        self.calls = self.calls.saturating_add(1);
         let written = self
             .writer
             .write_all(piece)

@@ -1,6 +1,6 @@
 //! Counts by name.
-ghost use Rattle.std.specs.Prelude.{◌≡◌, ℕ, List, IsTrue, OnOk};
-ghost use Rattle.vk_io.specs.Counts.{Rose, CountsOf, SameCounts};
+ghost use Rattle.std.specs.Prelude.{◌≡◌, ◌≢◌, ℕ, List, [], ◌∷◌, IsTrue, OnOk};
+ghost use Rattle.vk_io.specs.Counts.{Rose, CountsOf, SameCounts, next_count};
 
 use std::alloc::{AllocError, Global};
 use std::collections::BTreeMap;
@@ -38,7 +38,9 @@ impl Tally {
     pub(crate) fn raise(&mut self, name: &str)
         requires { IsTrue (has_place self.old name.now) }
         ensures rose { Rose (count_of self.old name.now) (count_of self.new name.now) }
-        ensures counts { CountsOf name.now (count_of self.old) (count_of self.new) }
+        ensures counts { CountsOf (name.now ∷ []) (count_of self.old) (count_of self.new) }
+        ensures next { count_of self.new name.now ≡ next_count (count_of self.old name.now) }
+        ensures others { (q : List ℕ) → q ≢ name.now → count_of self.new q ≡ count_of self.old q }
     {
         if let Some(count) = self.counts.get_mut(name) {
             *count = count.saturating_add(1);

@@ -11,7 +11,8 @@ fn words_keep_their_texts(rt: HostRuntime) -> Result<(), Fail> {
         words.push(text)?;
     }
     let mut out = MemSink::new(rt.alloc(), &[])?;
-    put_lines(&mut out, words.texts())?;
+    let lines = Lines::of_texts(rt.alloc(), words.texts())?;
+    put_lines(&mut out, &lines)?;
     assert_eq!(rt; words.texts().len(), 3);
     assert_eq!(rt; out.bytes(), b"lanes-o".as_slice());
     Ok(())
@@ -130,7 +131,8 @@ fn whole_files_are_read_up_to_the_limit(rt: HostRuntime) -> Result<(), Fail> {
 
 #[test]
 fn directories_hold_files(rt: HostRuntime) -> Result<(), Fail> {
-    let name = "/tmp/vk_io-directories_hold_files";
+    // The test runs in a folder of its own.
+    let name = "directories_hold_files";
     let alloc = rt.alloc();
     let mut store = DirStore::new(alloc, rt.clone()?);
     store.append(name, b"old")?;
@@ -141,10 +143,17 @@ fn directories_hold_files(rt: HostRuntime) -> Result<(), Fail> {
     assert_eq!(rt; store.fill(name, 2, &mut piece), Ok(4));
     assert_eq!(rt; &piece[..4], b"cdef".as_slice());
     assert_eq!(rt; store.fill(name, 9, &mut piece), Ok(0));
+    // Reading goes on where the last piece ended, and anew elsewhere.
+    let (front, back) = piece.split_at_mut(3);
+    assert_eq!(rt; store.fill(name, 0, front), Ok(3));
+    assert_eq!(rt; store.fill(name, 3, back), Ok(3));
+    assert_eq!(rt; &piece[..6], b"abcdef".as_slice());
+    assert_eq!(rt; store.fill(name, 3, &mut piece), Ok(3));
+    assert_eq!(rt; &piece[..3], b"def".as_slice());
     let whole = read_whole(alloc, &mut store, name, 6)?;
     assert_eq!(rt; whole.as_slice(), b"abcdef".as_slice());
     fs::remove_file(&rt, name)?;
-    let nowhere = "/tmp/vk_io-no-such-folder/file";
+    let nowhere = "no-such-folder/file";
     assert_eq!(rt; store.fill(name, 0, &mut piece), Err(Outside::Failed));
     assert_eq!(rt; store.start(nowhere), Err(Outside::Failed));
     assert_eq!(rt; store.append(nowhere, b"x"), Err(Outside::Failed));

@@ -1,7 +1,7 @@
 //! Reading a whole file.
-ghost use Rattle.std.specs.Prelude.{◌≡◌, ℕ, ◌+◌, ◌-◌, ◌<◌, ◌≤◌, IsTrue, IsErrOf, IfOk, OnOk, Some, length, vec_len};
-ghost use Rattle.vk_io.specs.Counts.{Rose, CountsOf, SameCounts};
-ghost use Rattle.vk_io.specs.Store.{SameFiles};
+ghost use Rattle.std.specs.Prelude.{◌≡◌, ℕ, ◌+◌, ◌-◌, ◌<◌, ◌≤◌, [], ◌∷◌, IsTrue, IsErrOf, IfOk, OnOk, Some, length, vec_len};
+ghost use Rattle.vk_io.specs.Counts.{Rose};
+ghost use Rattle.vk_io.specs.Store.{Reads};
 ghost use Rattle.vk_io.specs.Whole.{whole_of, IsFront, IsTooLong};
 
 use crate::outside::Outside;
@@ -56,18 +56,14 @@ fn read_more<S: Store>(
     requires piece { 0 < length piece.old }
     ensures more { IfOk result (λ n. vec_len all.new ≡ vec_len all.old + n) }
     ensures within { vec_len all.new ≤ limit + 1 }
-    ensures front { IsTrue (S.tells store.old) → IsFront (S.file store.old name.now) all.old.items →
-        OnOk result (IsFront (S.file store.old name.now) all.new.items) }
-    ensures end { IsTrue (S.tells store.old) → IsFront (S.file store.old name.now) all.old.items →
-        IfOk result (λ n. n ≡ 0 → S.file store.old name.now ≡ Some all.new.items) }
+    ensures front { IsTrue (S.state store.old).tells → IsFront ((S.state store.old).file name.now) all.old.items →
+        OnOk result (IsFront ((S.state store.old).file name.now) all.new.items) }
+    ensures end { IsTrue (S.state store.old).tells → IsFront ((S.state store.old).file name.now) all.old.items →
+        IfOk result (λ n. n ≡ 0 → (S.state store.old).file name.now ≡ Some all.new.items) }
 
-    ensures failed { IsErrOf result WholeFail.Fault → Rose (S.reads store.old name.now) (S.reads store.new name.now) }
+    ensures failed { IsErrOf result WholeFail.Fault → Rose ((S.state store.old).reads name.now) ((S.state store.new).reads name.now) }
     ensures size { IsErrOf result WholeFail.Size → ⊥ }
-    ensures reads { CountsOf name.now (S.reads store.old) (S.reads store.new) }
-
-    ensures writes { SameCounts (S.writes store.old) (S.writes store.new) }
-    ensures tells { S.tells store.new ≡ S.tells store.old }
-    ensures same { SameFiles (S.file store.old) (S.file store.new) }
+    ensures stays { Reads (name.now ∷ []) (S.state store.old) (S.state store.new) }
 {
     let room = (limit - all.len() as u64)
         .saturating_add(1)
@@ -89,16 +85,11 @@ pub fn read_whole<S: Store>(
     name: &str,
     limit: u64,
 ) -> Result<Vec<u8>, WholeFail>
-    ensures found { IsTrue (S.tells store.old) → IfOk result (λ bytes. S.file store.old name.now ≡ Some bytes.items) }
-    ensures size { IsTrue (S.tells store.old) → IsErrOf result WholeFail.Size → IsTooLong (S.file store.old name.now) limit }
+    ensures found { IsTrue (S.state store.old).tells → IfOk result (λ bytes. (S.state store.old).file name.now ≡ Some bytes.items) }
+    ensures size { IsTrue (S.state store.old).tells → IsErrOf result WholeFail.Size → IsTooLong ((S.state store.old).file name.now) limit }
     ensures fits { IfOk result (λ bytes. length bytes.items ≤ limit) }
-
-    ensures failed { IsErrOf result WholeFail.Fault → Rose (S.reads store.old name.now) (S.reads store.new name.now) }
-    ensures reads { CountsOf name.now (S.reads store.old) (S.reads store.new) }
-
-    ensures writes { SameCounts (S.writes store.old) (S.writes store.new) }
-    ensures tells { S.tells store.new ≡ S.tells store.old }
-    ensures same { SameFiles (S.file store.old) (S.file store.new) }
+    ensures failed { IsErrOf result WholeFail.Fault → Rose ((S.state store.old).reads name.now) ((S.state store.new).reads name.now) }
+    ensures stays { Reads (name.now ∷ []) (S.state store.old) (S.state store.new) }
 {
     let mut piece = vec![in alloc; 0u8; PIECE]?;
     let mut all = Vec::new(alloc);

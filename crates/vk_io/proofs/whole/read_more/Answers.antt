@@ -7,4 +7,4 @@ pub returns-clause-front : goal.returns-clause-front
 returns-clause-front g c = λ told front.
     let at_end : c.len-2.result ≡ length c.args.all.now.items = search rules in
     let more : c.extend_from_slice.new.self.items ≡ c.args.all.now.items ++ take c.in_ok-count.count c.fill.new.into = grind (arith, common_steps) in
-    rw more (IsFront-fill (g.S.Store.file c.args.store.now c.args.name.now) _ _ _ _ at_end front (c.in_ok-count.ensures.bytes told))
+    rw more (IsFront-fill ((g.S.Store.state c.args.store.now).file c.args.name.now) _ _ _ _ at_end front (c.in_ok-count.ensures.bytes told))

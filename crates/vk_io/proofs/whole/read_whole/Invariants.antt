@@ -4,11 +4,7 @@ use Rattle.vk_io.proofs.whole.read_whole.Given as goal
 
 abbrev pub invariant-loop-all : goal.invariant-loop-all
 invariant-loop-all g l =
-    (0 < vec_len l.piece) ×
-    HasRead l.name (g.S.Store.tells l.initial.store) (g.S.Store.tells l.store)
-    (g.S.Store.reads l.initial.store) (g.S.Store.reads l.store)
-    (g.S.Store.writes l.initial.store) (g.S.Store.writes l.store)
-    (g.S.Store.file l.initial.store) (g.S.Store.file l.store) l.all.items
+    (0 < vec_len l.piece) × HasRead l.name (g.S.Store.state l.initial.store) (g.S.Store.state l.store) l.all.items
 
 abbrev pub decreases-loop-all : goal.decreases-loop-all
 decreases-loop-all g l = l.limit + 1 - vec_len l.all

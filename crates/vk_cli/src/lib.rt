@@ -1,0 +1,6 @@
+//! The top call of vfabi: what the words of a command line ask.
+#![tactic(auto)]
+
+pub mod call;
+
+pub use call::vfabi;

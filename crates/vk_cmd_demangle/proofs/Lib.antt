@@ -1,0 +1,4 @@
+mod NameLines
+mod Described
+mod Lined
+mod Told

@@ -1,0 +1,108 @@
+-- Words ask one thing or break one rule.
+use Rattle.std.proofs.Common.{◌≡◌, ◌∙◌, ◌==◌, ℕ, true, false, List, [], Option, Some, None, refl, sym, ap, subst, if◌then◌else◌, get_or}
+use Rattle.std.specs.Prelude.{codes}
+use Rattle.std.proofs.lemmas.Bool.{false≢true}
+use Rattle.clap.specs.Words.{App, Text, takes}
+use Rattle.vk_words.specs.Asked.{IsDemangle, IsLanes, IsLanesUnstated, LanesAsked}
+use Rattle.vk_words.specs.Command.{Command, IsCommand, IsUnstated, IsWordFault, Picks, demangle, first_word, lanes, name_text, table_of}
+use Rattle.vk_words.specs.declared.request.Name.{Name}
+use Rattle.vk_words.specs.declared.request.Name.TheVariants.{Demangle as DemangleName, Lanes as LanesName}
+use Rattle.vk_ends.specs.declared.ends.WordRule.{WordRule}
+use Rattle.vk_ends.specs.declared.ends.WordRule.TheVariants.{P1, P2, P3, P4}
+
+some_same : {X : Type 0} (o : Option X) (x y : X) → o ≡ Some x → o ≡ Some y → x ≡ y
+some_same o x y a b = cc
+
+-- ---- names
+
+abbrev name_by : ℕ → Name
+name_by x = if x == 100 then DemangleName else LanesName
+
+name_of_text : (name : Name) → name_by (get_or (name_text name) 0 0) ≡ name
+name_of_text DemangleName = refl
+name_of_text LanesName = refl
+
+name_same : (words : List Text) (a b : Name) → Picks words a → Picks words b → a ≡ b
+name_same words a b x y = sym (name_of_text a) ∙ ap (λ (t : Text). name_by (get_or t 0 0)) (some_same (first_word words) _ _ x y) ∙ name_of_text b
+
+not_both : DemangleName ≡ LanesName → ⊥
+not_both e = cc
+
+some_word : (words : List Text) (name : Name) → words ≡ [] → Picks words name → ⊥
+some_word words name e p = let none : None ≡ Some (name_text name) = ap first_word (sym e) ∙ p in cc
+
+-- ---- what is asked
+
+demangle_same : (words : List Text) (r s : Text) → IsDemangle words r → IsDemangle words s → r ≡ s
+demangle_same words r s a b = some_same _ _ _ a.file b.file
+
+lanes_same : (words : List Text) (r s : LanesAsked) → IsLanes words r → IsLanes words s → r ≡ s
+lanes_same words r s a b =
+    let unit = some_same _ _ _ a.unit b.unit in
+    let name = some_same _ _ _ a.name b.name in
+    let arguments = sym a.arguments ∙ b.arguments in
+    λ i. record { unit = unit i; name = name i; arguments = arguments i }
+
+-- the words ask one thing
+pub command_same : (words : List Text) (j k : Command) → IsCommand words j → IsCommand words k → j ≡ k
+command_same words (demangle r) (demangle s) a b = ap demangle (demangle_same words r s a.1 b.1)
+command_same words (demangle r) (lanes s) a b = absurd (not_both (name_same words _ _ a.0 b.0))
+command_same words (lanes r) (demangle s) a b = absurd (not_both (name_same words _ _ b.0 a.0))
+command_same words (lanes r) (lanes s) a b = ap lanes (lanes_same words r s a.1 b.1)
+
+-- the command, and that its table takes the words
+abbrev name_of : Command → Name
+name_of (demangle r) = DemangleName
+name_of (lanes r) = LanesName
+
+picked : (words : List Text) (k : Command) → IsCommand words k → Picks words (name_of k)
+picked words (demangle r) a = a.0
+picked words (lanes r) a = a.0
+
+taken : (words : List Text) (k : Command) → IsCommand words k → takes (table_of (name_of k)) words ≡ true
+taken words (demangle r) a = a.1.taken
+taken words (lanes r) a = a.1.taken
+
+stated : (words : List Text) (k : Command) → IsCommand words k → IsUnstated (name_of k) words → ⊥
+stated words (demangle r) a u = u
+stated words (lanes r) a u = u.isa a.1.isa
+
+unstated_taken : (name : Name) (words : List Text) → IsUnstated name words → takes (table_of name) words ≡ true
+unstated_taken DemangleName words u = absurd u
+unstated_taken LanesName words u = u.taken
+
+-- ---- rules
+
+-- where they ask something, they break no rule
+pub no_fault : (words : List Text) (k : Command) (rule : WordRule) → IsCommand words k → IsWordFault words rule → ⊥
+no_fault words k P1 a f = some_word words (name_of k) f (picked words k a)
+no_fault words k P2 a f = f.1 (name_of k) (picked words k a)
+no_fault words k P3 a f =
+    let same = name_same words f.0 (name_of k) f.1 (picked words k a) in
+    false≢true (sym (subst (λ (n : Name). takes (table_of n) words ≡ false) same f.2) ∙ taken words k a)
+no_fault words k P4 a f =
+    let same = name_same words f.0 (name_of k) f.1 (picked words k a) in
+    stated words k a (subst (λ (n : Name). IsUnstated n words) same f.2)
+
+not_taken : (words : List Text) (a b : Name) → Picks words a → Picks words b → takes (table_of a) words ≡ false → IsUnstated b words → ⊥
+not_taken words a b p q f u =
+    false≢true (sym (subst (λ (n : Name). takes (table_of n) words ≡ false) (name_same words a b p q) f) ∙ unstated_taken b words u)
+
+-- they break one rule
+pub fault_same : (words : List Text) (a b : WordRule) → IsWordFault words a → IsWordFault words b → a ≡ b
+fault_same words P1 P1 f g = refl
+fault_same words P1 P2 f g = absurd (g.0 f)
+fault_same words P1 P3 f g = absurd (some_word words g.0 f g.1)
+fault_same words P1 P4 f g = absurd (some_word words g.0 f g.1)
+fault_same words P2 P1 f g = absurd (f.0 g)
+fault_same words P2 P2 f g = refl
+fault_same words P2 P3 f g = absurd (f.1 g.0 g.1)
+fault_same words P2 P4 f g = absurd (f.1 g.0 g.1)
+fault_same words P3 P1 f g = absurd (some_word words f.0 g f.1)
+fault_same words P3 P2 f g = absurd (g.1 f.0 f.1)
+fault_same words P3 P3 f g = refl
+fault_same words P3 P4 f g = absurd (not_taken words f.0 g.0 f.1 g.1 f.2 g.2)
+fault_same words P4 P1 f g = absurd (some_word words f.0 g f.1)
+fault_same words P4 P2 f g = absurd (g.1 f.0 f.1)
+fault_same words P4 P3 f g = absurd (not_taken words g.0 f.0 g.1 f.1 g.2 f.2)
+fault_same words P4 P4 f g = refl

@@ -1,0 +1,25 @@
+-- The requests of the code as what is asked.
+use Rattle.std.specs.Prelude.{map, option_map}
+use Rattle.vk_words.specs.declared.call.CallRequest.{CallRequest}
+use Rattle.vk_words.specs.declared.run.RunRequest.{RunRequest}
+use Rattle.vk_words.specs.declared.lanes.LanesRequest.{LanesRequest}
+use Rattle.vk_words.specs.declared.link.LinkRequest.{LinkRequest}
+use Rattle.vk_words.specs.Asked.{CallAsked, LanesAsked, LinkAsked, RunAsked}
+
+abbrev pub call_asked : CallRequest → CallAsked
+call_asked r = record {
+  image = r.image.now;
+  name = r.name.now;
+  arguments = map (λ s. s.now) r.arguments.items;
+  mask = option_map (λ s. s.now) r.mask;
+  turns = r.turns;
+}
+
+abbrev pub run_asked : RunRequest → RunAsked
+run_asked r = record { image = r.image.now; turns = r.turns; has_stats = r.has_stats }
+
+abbrev pub link_asked : LinkRequest → LinkAsked
+link_asked r = record { isa = r.isa; vl = r.vl; image = r.image.now; objects = map (λ s. s.now) r.objects.items }
+
+abbrev pub lanes_asked : LanesRequest → LanesAsked
+lanes_asked r = record { unit = r.unit.now; name = r.name.now; arguments = map (λ s. s.now) r.arguments.items }

@@ -1,0 +1,16 @@
+//! The words of commands, read by `clap`: for each command one table of options and values, and what its words then ask.
+#![tactic(auto)]
+
+pub mod call;
+pub mod demangle;
+pub mod getters;
+pub mod lanes;
+pub mod link;
+pub mod matching;
+pub mod request;
+pub mod run;
+pub mod tables;
+pub mod values;
+
+pub use lanes::LanesRequest;
+pub use request::{Request, WordFail, request_of};
