@@ -3,9 +3,10 @@
 use crate::front::{front_of, tower};
 use crate::print::Printer;
 use std::test::Fail;
+use vk_ast::{Clause, ClauseKind, PlacedName};
 use vk_parse_directives::{read_clauses, read_directive};
 
-static LINES: [(&str, &str); 54] = [
+static LINES: [(&str, &str); 61] = [
     ("", ""),
     ("inbranch", "1inbranch"),
     ("notinbranch", "1notinbranch"),
@@ -62,6 +63,14 @@ static LINES: [(&str, &str); 54] = [
     ("linear ( a : const , step ( 1 ) )", "1other"),
     ("linear ( a : 1 , val )", "1other"),
     ("nontemporal ( a , b ) inbranch", "1other 7inbranch"),
+    // The words of a cast are a type.
+    ("simdlen ( ( int ) 4 )", "1simdlen(3(I32 6#4))"),
+    ("simdlen ( ( signed char ) 4 )", "1simdlen(3(I8 7#4))"),
+    ("simdlen ( ( char ) 4 )", "1other"),
+    ("simdlen ( ( short long ) 4 )", "1other"),
+    ("linear ( a : ( char ) 2 )", "1other"),
+    ("aligned ( a : 1 + ( char ) 2 )", "1other"),
+    ("linear ( a : val , step ( ( int int ) 1 ) )", "1other"),
     ("if ( a ) inbranch", "1other 5inbranch"),
     ("reduction ( + : ( a ) ) inbranch", "1other 9inbranch"),
     ("4 inbranch", "1other 2inbranch"),
@@ -121,4 +130,38 @@ fn reads_the_directive_of_a_line(rt: HostRuntime) -> Result<(), Fail> {
     let found = Printer { alloc, names }.directive(&directive)?;
     assert!(rt; found.as_str() == "2[5simdlen(7#4) 9notinbranch]");
     Ok(())
+}
+
+#[test]
+fn keeps_the_lines_of_clauses_and_names(rt: HostRuntime) -> Result<(), Fail> {
+    let alloc = rt.alloc();
+    let text = "#pragma omp declare simd \\\nuniform(a, \\\nb) linear(c)\n";
+    let front = front_of(&rt, alloc, text)?;
+    let names = &front.tokens.names;
+    let syms = &front.syms;
+    assert_eq!(rt; syms.outside.len(), 1);
+    let directive = read_directive(alloc, names, syms, syms.outside[0], 1).map_err(
+        |_| "no memory",
+    )?;
+    let printer = Printer { alloc, names };
+    assert_eq!(rt; directive.clauses.len(), 2);
+    let uniform = &directive.clauses[0];
+    assert_eq!(rt; uniform.line, 2);
+    assert!(rt; printer.placed(listed(uniform))?.as_str() == "a@2 b@3");
+    assert!(rt; printer.placed(&uniform.names)?.as_str() == "uniform@2 a@2 b@3");
+    let linear = &directive.clauses[1];
+    assert_eq!(rt; linear.line, 3);
+    assert!(rt; printer.placed(listed(linear))?.as_str() == "c@3");
+    assert!(rt; printer.placed(&linear.names)?.as_str() == "linear@3 c@3");
+    Ok(())
+}
+
+// The names that a clause lists.
+fn listed(clause: &Clause) -> &[PlacedName] {
+    match &clause.kind {
+        ClauseKind::Uniform(names) => names,
+        ClauseKind::Aligned(names, _) => names,
+        ClauseKind::Linear(names, _, _) => names,
+        _ => &[],
+    }
 }

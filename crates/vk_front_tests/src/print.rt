@@ -185,6 +185,18 @@ impl Printer<'_> {
         Ok(text)
     }
 
+    /// Names, each with its line.
+    pub(crate) fn placed(&self, names: &[PlacedName]) -> Result<String, AllocError> {
+        let mut text = String::new(self.alloc);
+        for name in names {
+            let line = name.line;
+            let shown = self.name(name.name);
+            let placed = format!(in self.alloc; "{shown}@{line}")?;
+            self.behind(&mut text, placed.as_str())?;
+        }
+        Ok(text)
+    }
+
     pub(crate) fn clause(&self, clause: &Clause) -> Result<String, AllocError> {
         let first = place(clause.token);
         match &clause.kind {
