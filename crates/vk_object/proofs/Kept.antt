@@ -30,9 +30,9 @@ sweep_keeps m zero step h w j off = refl
 sweep_keeps m (suc n) step h w j off =
     let v : View = record { lane = (sweep n step w).lane n; mem = (sweep n step w).mem } in
     put_at (step n v).lane ((sweep n step w).lane j) (w.lane j).reg (j == n)
-      (λ e. let same : v.lane ≡ w.lane j = past n step w n (omega arith) ∙ ap w.lane (sym (eqb-true j n e)) in
-        h n v (ap (is_live m) same ∙ off) ∙ ap (λ (l : LaneState). l.reg) same)
-      (sweep_keeps m n step h w j off)
+    (λ e. let same : v.lane ≡ w.lane j = past n step w n (omega arith) ∙ ap w.lane (sym (eqb-true j n e)) in
+    h n v (ap (is_live m) same ∙ off) ∙ ap (λ (l : LaneState). l.reg) same)
+    (sweep_keeps m n step h w j off)
 
 view_keeps : (a v : View) (t : Bool) → t ≡ false → (cond t a v).lane.reg ≡ v.lane.reg
 view_keeps a v true h = absurd (false≢true (sym h))
@@ -58,20 +58,20 @@ target_keeps s m None w j off = refl
 target_keeps s m (Some t) w j off =
     let g : Given = s.calls t.number (λ i. is_live m (w.lane i)) (lane_args s t.slot t.entry w.lane (first_live s.entry.lanes m w.lane)) w.mem in
     choice_keeps (sweep s.entry.lanes (call_one m t.slot (s.calls t.number)) w) (call_all s m t.slot t.entry (s.calls t.number) w) (t.entry.lanes == 1) j (w.lane j).reg
-      (sweep_keeps m s.entry.lanes (call_one m t.slot (s.calls t.number))
-        (λ i v dead. view_keeps (record { lane = takes t.slot.result v.lane ((s.calls t.number (λ k. k == 0) (λ p k. v.lane.reg (arg_reg t.slot p)) v.mem).value 0) ((s.calls t.number (λ k. k == 0) (λ p k. v.lane.reg (arg_reg t.slot p)) v.mem).stop 0); mem = (s.calls t.number (λ k. k == 0) (λ p k. v.lane.reg (arg_reg t.slot p)) v.mem).mem }) v (is_live m v.lane) dead)
-        w j off)
-      (choice_keeps (record { lane = λ i. cond (is_live m (w.lane i)) (takes t.slot.result (w.lane i) (g.value i) (g.stop i)) (w.lane i); mem = g.mem }) w (any_live s.entry.lanes m w.lane) j (w.lane j).reg
-        (lane_keeps (takes t.slot.result (w.lane j) (g.value j) (g.stop j)) (w.lane j) (is_live m (w.lane j)) off) refl)
+    (sweep_keeps m s.entry.lanes (call_one m t.slot (s.calls t.number))
+    (λ i v dead. view_keeps (record { lane = takes t.slot.result v.lane ((s.calls t.number (λ k. k == 0) (λ p k. v.lane.reg (arg_reg t.slot p)) v.mem).value 0) ((s.calls t.number (λ k. k == 0) (λ p k. v.lane.reg (arg_reg t.slot p)) v.mem).stop 0); mem = (s.calls t.number (λ k. k == 0) (λ p k. v.lane.reg (arg_reg t.slot p)) v.mem).mem }) v (is_live m v.lane) dead)
+    w j off)
+    (choice_keeps (record { lane = λ i. cond (is_live m (w.lane i)) (takes t.slot.result (w.lane i) (g.value i) (g.stop i)) (w.lane i); mem = g.mem }) w (any_live s.entry.lanes m w.lane) j (w.lane j).reg
+    (lane_keeps (takes t.slot.result (w.lane j) (g.value j) (g.stop j)) (w.lane j) (is_live m (w.lane j)) off) refl)
 
 simd_keeps : (s : Site) (m : ℕ) (o : Option Simd) (w : World) (j : ℕ) → is_live m (w.lane j) ≡ false → ((runs_simd s m o w).lane j).reg ≡ (w.lane j).reg
 simd_keeps s m None w j off = refl
 simd_keeps s m (Some l) w j off =
     let v : View = record { lane = w.lane 0; mem = w.mem } in
     put_at (cond (is_live m v.lane) (simd_in s l v) v).lane (w.lane j) (w.lane j).reg (j == 0)
-      (λ e. let same : w.lane 0 ≡ w.lane j = ap w.lane (sym (eqb-true j 0 e)) in
-        view_keeps (simd_in s l v) v (is_live m v.lane) (ap (is_live m) same ∙ off) ∙ ap (λ (a : LaneState). a.reg) same)
-      refl
+    (λ e. let same : w.lane 0 ≡ w.lane j = ap w.lane (sym (eqb-true j 0 e)) in
+    view_keeps (simd_in s l v) v (is_live m v.lane) (ap (is_live m) same ∙ off) ∙ ap (λ (a : LaneState). a.reg) same)
+    refl
 
 performs_keep : (s : Site) (m : ℕ) (o : Operation) (w : World) (j : ℕ) → is_live m (w.lane j) ≡ false → ((performs s m o w).lane j).reg ≡ (w.lane j).reg
 performs_keep s m (Call k) w j off = target_keeps s m (target_of s k) w j off
