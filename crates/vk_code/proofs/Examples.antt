@@ -1,13 +1,12 @@
 -- Small codes in which each sentence on valid code is broken once, with the number of the part that breaks it.
-use Rattle.std.proofs.Common.{◌≡◌, ℕ, zero, suc, ◌+◌, ◌-◌, ◌*◌, ◌^◌, Bool, true, false, List, [], ◌∷◌, Option, Some, None, slice_set, refl}
-use Rattle.vk_types.specs.declared.types.Ty.TheVariants.{I8, I16, I32, I64, U8, U16, U32, U64}
-use Rattle.vk_kinds.specs.declared.heads.CType.{CType}
+use Rattle.std.proofs.Common.{◌≡◌, ℕ, zero, suc, ◌+◌, ◌-◌, ◌*◌, ◌^◌, true, false, List, [], ◌∷◌, Option, Some, None, slice_set, refl}
+use Rattle.vk_types.specs.declared.types.Ty.TheVariants.{I8, I32, I64, U8, U32}
 use Rattle.vk_kinds.specs.declared.heads.CType.TheVariants.{Void, Int, Ptr}
 use Rattle.vk_code.specs.declared.code.SlotArg.{SlotArg}
 use Rattle.vk_code.specs.declared.code.Shape.{Shape}
 use Rattle.vk_code.specs.declared.code.Shape.TheVariants.{Vector, Along, Same}
 use Rattle.vk_code.specs.declared.instruction.Instr.{Instr}
-use Rattle.vk_code.specs.Listing.{CallSite, Listing, LoopBody, own, numbered, Routine, SimdSite}
+use Rattle.vk_code.specs.Listing.{CallSite, LoopBody, own, numbered, Routine, SimdSite}
 use Rattle.vk_code.specs.Valid.{Environment, fault_of}
 
 -- ---- a valid code

@@ -22,7 +22,7 @@ use Rattle.vk_code.specs.declared.env.Env.{Env}
 use Rattle.vk_code.specs.declared.env.FunctionHead.{FunctionHead}
 use Rattle.vk_code.specs.declared.env.ObjectHead.{ObjectHead}
 use Rattle.vk_code.specs.Instruction.{block_of, operation_of}
-use Rattle.vk_code.specs.Listing.{CallSite, Listing, LoopBody, own, numbered, Routine, SimdSite, listing_of, reg_type}
+use Rattle.vk_code.specs.Listing.{CallSite, Listing, LoopBody, own, numbered, Routine, SimdSite, reg_type}
 use Rattle.vk_code.specs.Tests.{all_good, first_bad, holds, pairs}
 
 -- ---- what code may name

@@ -1,5 +1,5 @@
 -- An image, and tables that break one of its conditions each.
-use Rattle.std.proofs.Common.{◌≡◌, ℕ, zero, suc, ◌+◌, ◌-◌, ◌*◌, ◌^◌, Bool, true, false, ℤ, pos, List, [], ◌∷◌, Option, Some, None, replicate, slice_set, refl}
+use Rattle.std.proofs.Common.{◌≡◌, ℕ, zero, suc, ◌+◌, ◌-◌, ◌^◌, Bool, true, false, pos, List, [], ◌∷◌, Some, None, replicate, slice_set, refl}
 use Rattle.vk_types.specs.declared.types.Ty.TheVariants.{I32, I64}
 use Rattle.vk_types.specs.declared.types.Word.{Word}
 use Rattle.vk_kinds.specs.declared.heads.CType.TheVariants.{Int}
@@ -12,11 +12,11 @@ use Rattle.vk_kinds.specs.declared.kinds.Target.TheVariants.{X86, Arm}
 use Rattle.vk_code.specs.declared.code.Shape.TheVariants.{Vector as AnyShape}
 use Rattle.vk_code.specs.declared.code.SlotArg.{SlotArg}
 use Rattle.vk_code.specs.declared.instruction.Instr.{Instr}
-use Rattle.vk_code.specs.Listing.{CallSite, Listing, Routine, SimdSite, numbered}
+use Rattle.vk_code.specs.Listing.{Listing, numbered}
 use Rattle.vk_object.specs.declared.tables.EntryKind.{EntryKind}
 use Rattle.vk_object.specs.declared.tables.EntryKind.TheVariants.{Ordinary, Scalar, M, Chunk, Rest}
 use Rattle.vk_object.specs.declared.tables.LoopTargets.{LoopTargets}
-use Rattle.vk_object.specs.Images.{cells_of, is_image, is_within}
+use Rattle.vk_object.specs.Images.{cells_of, is_image}
 use Rattle.vk_object.specs.Tables.{ArrayLists, EntryLists, Tables}
 
 -- ---- an image

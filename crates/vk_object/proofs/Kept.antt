@@ -1,12 +1,12 @@
 -- A lane that is not live in an instruction's mask keeps its registers.
-use Rattle.std.proofs.Common.{◌≡◌, ℕ, zero, suc, ◌+◌, ◌≤◌, ◌==◌, Bool, true, false, cond, List, Option, Some, None, refl, ap, sym, ◌∙◌, arith}
+use Rattle.std.proofs.Common.{◌≡◌, ℕ, zero, suc, ◌≤◌, ◌==◌, Bool, true, false, cond, List, Option, Some, None, refl, ap, sym, ◌∙◌, arith}
 use Rattle.std.proofs.lemmas.Bool.{eqb-true, false≢true}
 use Rattle.vk_kinds.specs.declared.heads.CType.{CType}
 use Rattle.vk_code.specs.declared.instruction.Operation.{Operation}
-use Rattle.vk_code.specs.declared.instruction.Operation.TheVariants.{Const, Copy, Convert, Binary, Compare, Unary, Lane, Load, Store, PtrAdd, Addr, MaskOf, MaskAnd, MaskOr, MaskBut, Loop, Call, Print, SimdLoop}
-use Rattle.vk_object.specs.Memory.{Extent, Memory}
+use Rattle.vk_code.specs.declared.instruction.Operation.TheVariants.{MaskOf, MaskAnd, MaskOr, MaskBut, Call, SimdLoop}
+use Rattle.vk_object.specs.Memory.{Extent}
 use Rattle.vk_object.specs.Lane.{LaneState, View, acts, is_live, works}
-use Rattle.vk_object.specs.Machine.{Given, Simd, Site, Target, World, any_live, arg_reg, call_all, call_one, calls_target, first_live, in_lane, lane_args, performs, performs_some, runs_simd, simd_in, simd_of, sweep, takes, target_of}
+use Rattle.vk_object.specs.Machine.{Given, Simd, Site, Target, World, any_live, arg_reg, call_all, call_one, calls_target, first_live, lane_args, performs, performs_some, runs_simd, simd_in, simd_of, sweep, takes, target_of}
 
 -- the step leaves the registers of a lane that is not live
 abbrev Keeps : ℕ → (ℕ → View → View) → Type 0

@@ -1,8 +1,8 @@
-use Rattle.std.proofs.Common.{◌≡◌, ◌∙◌, ◌&&◌, ◌+◌, ap, sym, refl, arith, drop}
+use Rattle.std.proofs.Common.{◌∙◌, ◌&&◌, ◌+◌, ap, sym, arith, drop}
 use Rattle.vk_code.specs.Listing.{routine_of}
 use Rattle.vk_code.specs.Tests.{pairs}
 use Rattle.vk_code.specs.Valid.{is_arg_for}
-use Rattle.vk_code.proofs.Pairs.{pairs-drop, pairs_past, pairs_uneven}
+use Rattle.vk_code.proofs.Pairs.{pairs-drop, pairs_past}
 use Rattle.vk_code.proofs.parts.are_args_for.Goals as goal
 
 pub loop-at-preserved : goal.loop-at-preserved

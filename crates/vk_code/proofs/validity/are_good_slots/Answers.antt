@@ -1,4 +1,4 @@
-use Rattle.std.proofs.Common.{◌≡◌, ◌∙◌, is_none, map, ap, sym}
+use Rattle.std.proofs.Common.{◌∙◌, is_none, map, ap}
 use Rattle.vk_code.specs.declared.code.Code.{out-Code}
 use Rattle.vk_code.specs.Listing.{call_site_of, routine_of}
 use Rattle.vk_code.specs.Tests.{first_bad}
