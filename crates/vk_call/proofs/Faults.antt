@@ -4,7 +4,7 @@ use Rattle.std.proofs.lemmas.Bool.{cases_lt, cases_order}
 use Rattle.std.proofs.lemmas.List.{get_or-map, get_or-take, length-take-le}
 use Rattle.vk_types.specs.declared.types.Word.{Word}
 use Rattle.vk_kinds.specs.declared.heads.CType.{CType}
-use Rattle.vk_code.specs.Code.{types_of}
+use Rattle.vk_line.specs.Code.{types_of}
 use Rattle.vk_call.specs.Arguments.{AreArguments, IsFaultOfValues, IsLeastFault, value_of_lane, values_at, values_of}
 use Rattle.vk_call.specs.Inner.Rows.{AreRows, IsLeastWrong}
 use Rattle.vk_call.specs.declared.arguments.ArgumentFail.{ArgumentFail}

@@ -8,7 +8,7 @@ use Rattle.vk_types.specs.declared.types.Word.{Word}
 use Rattle.vk_types.specs.Numbers.{IsCanonical}
 use Rattle.vk_kinds.specs.declared.heads.CType.{CType}
 use Rattle.vk_kinds.specs.declared.heads.CType.TheVariants.{Int}
-use Rattle.vk_code.specs.Code.{HasType, integer_of, types_of}
+use Rattle.vk_line.specs.Code.{HasType, integer_of, types_of}
 use Rattle.vk_simple.specs.Inner.Machine.{AreWords, numbers_of}
 use Rattle.vk_simple.specs.Inner.Machine as machine
 use Rattle.vk_call.specs.Arguments.{IsFaultOfValues, lane_arguments, values_at, values_of}

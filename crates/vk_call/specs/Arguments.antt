@@ -7,7 +7,7 @@ use Rattle.std.specs.Str.Parse.{digits_value}
 use Rattle.vk_types.specs.declared.types.Ty.{Ty}
 use Rattle.vk_types.specs.Numbers.{wrap_number}
 use Rattle.vk_kinds.specs.declared.heads.CType.{CType}
-use Rattle.vk_code.specs.Code.{integer_of, types_of}
+use Rattle.vk_line.specs.Code.{integer_of, types_of}
 
 -- the parts of a text between its commas
 abbrev pub with_front : ℕ → List (List ℕ) → List (List ℕ)

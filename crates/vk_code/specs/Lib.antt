@@ -1,3 +1,5 @@
-pub mod Code
+pub mod Inner
 pub mod Instruction
-pub mod Lane
+pub mod Listing
+pub mod Tests
+pub mod Valid

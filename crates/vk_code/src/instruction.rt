@@ -1,15 +1,16 @@
 // One instruction, as its 16 bytes have it, and the operation that it stands for.
 
-ghost use Rattle.std.specs.Prelude.{◌≡◌, ◌∷◌, Some};
-ghost use Rattle.vk_code.specs.Instruction.{field_b, field_c, field_x, has_zeros, operation_of, operator_numbered, comparison_numbered, unary_numbered, type_numbered, IsArithmetic, IsComparison};
+ghost use Rattle.std.specs.Prelude.{◌≡◌, Some};
+ghost use Rattle.vk_code.specs.Instruction.{IsArithmetic, IsComparison, IsEncodable, block_of, comparison_numbered, field_b, field_c, field_x, has_zeros, operation_by, operation_of, operator_numbered, type_numbered, unary_numbered};
 
+use crate::opcode::{Fields, Opcode};
 use vk_types::{Op1, Op2, Ty, Word};
 
 /// One instruction, as its bytes have it.
 ///
-/// `op` says which (0 `Const`, 2 `Convert`, 3 `Binary`, 4 `Compare`, 5 `Unary`), `ty` the type of the operands (0 to 7 for
-/// `I8` to `U64`), `m` the mask, `d` the register written, `a` the first operand's register. `imm` is one number, or from its
-/// lowest bit on `b` (16 bits), `c` (16 bits) and `x` (32 bits). Unused fields are 0; `Convert` has no `ty`.
+/// `op` is the number of an [`Opcode`], `ty` that of the operands' type (0 to 7 for `I8` to `U64`), `m` the mask, `d` the
+/// register or mask written, `a` the first operand. `imm` is one number, or from its lowest bit on `b` (16 bits), `c`
+/// (16 bits) and `x` (32 bits). Unused fields are 0.
 #[derive(Clone, Copy, PartialEq, Eq, Debug)]
 pub struct Instr {
     pub op: u8,
@@ -28,6 +29,11 @@ pub enum Operation {
         ty: Ty,
         d: u16,
         value: Word,
+    },
+    /// `d := a`, of one type, or a read pointer from a written one.
+    Copy {
+        d: u16,
+        a: u16,
     },
     /// `d := a`, converted to the type of `d`.
     Convert {
@@ -57,83 +63,190 @@ pub enum Operation {
         d: u16,
         a: u16,
     },
+    /// `d :=` the lane's number.
+    Lane {
+        d: u16,
+    },
+    /// `d :=` the element at `a`, converted to the type of `d`.
+    Load {
+        d: u16,
+        a: u16,
+    },
+    /// The element at `a := b`, converted to its type.
+    Store {
+        a: u16,
+        b: u16,
+    },
+    /// `d := a` moved by the number in `b`.
+    PtrAdd {
+        d: u16,
+        a: u16,
+        b: u16,
+    },
+    /// `d :=` the first element of an object or array.
+    Addr {
+        d: u16,
+        object: u32,
+    },
+    /// Mask `d :=` the live lanes where `a` is not 0.
+    MaskOf {
+        d: u16,
+        a: u16,
+    },
+    /// Mask `d := a` and `b`.
+    MaskAnd {
+        d: u16,
+        a: u16,
+        b: u16,
+    },
+    /// Mask `d := a` or `b`.
+    MaskOr {
+        d: u16,
+        a: u16,
+        b: u16,
+    },
+    /// Mask `d := a` and not `b`.
+    MaskBut {
+        d: u16,
+        a: u16,
+        b: u16,
+    },
+    /// Runs the next `count` instructions again and again, while a lane is live.
+    Loop {
+        count: u32,
+    },
+    /// Makes the call of a slot.
+    Call {
+        slot: u32,
+    },
+    /// Writes `a` as a decimal line.
+    Print {
+        a: u16,
+    },
+    /// Runs a simd loop.
+    SimdLoop {
+        number: u32,
+    },
 }
 
 impl Instr {
-    /// The instruction `d := value`, in mask 0.
-    pub fn constant(ty: Ty, d: u16, value: Word) -> Instr
-        ensures operation { operation_of result ≡ Some (Operation.Const ty d value) }
-        ensures mask { result.m ≡ 0 }
+    /// The instruction with this operation in the mask.
+    pub fn new(mask: u16, operation: Operation) -> Instr
+        requires encodable { IsEncodable mask operation }
+        ensures operation { operation_of result ≡ Some operation }
+        ensures mask { result.m ≡ mask }
     {
-        Instr {
-            op: 0,
-            ty: type_number(ty),
-            m: 0,
-            d,
-            a: 0,
-            imm: value.0,
-        }
-    }
-
-    /// The instruction `d := a`, converted to the type of `d`, in mask 0.
-    pub fn convert(d: u16, a: u16) -> Instr
-        ensures operation { operation_of result ≡ Some (Operation.Convert d a) }
-        ensures mask { result.m ≡ 0 }
-    {
-        Instr {
-            op: 2,
-            ty: 0,
-            m: 0,
-            d,
-            a,
-            imm: 0,
-        }
-    }
-
-    /// The instruction `d := a op b`, in mask 0.
-    pub fn binary(op: Op2, ty: Ty, d: u16, a: u16, b: u16) -> Instr
-        requires arithmetic { IsArithmetic op }
-        ensures operation { operation_of result ≡ Some (Operation.Binary op ty d a b) }
-        ensures mask { result.m ≡ 0 }
-    {
-        Instr {
-            op: 3,
-            ty: type_number(ty),
-            m: 0,
-            d,
-            a,
-            imm: immediate(b, operator_number(op)),
-        }
-    }
-
-    /// The instruction `d := a op b` of a comparison, in mask 0.
-    pub fn compare(op: Op2, ty: Ty, d: u16, a: u16, b: u16) -> Instr
-        requires comparison { IsComparison op }
-        ensures operation { operation_of result ≡ Some (Operation.Compare op ty d a b) }
-        ensures mask { result.m ≡ 0 }
-    {
-        Instr {
-            op: 4,
-            ty: type_number(ty),
-            m: 0,
-            d,
-            a,
-            imm: immediate(b, comparison_number(op)),
-        }
-    }
-
-    /// The instruction `d := op a`, in mask 0.
-    pub fn unary(op: Op1, ty: Ty, d: u16, a: u16) -> Instr
-        ensures operation { operation_of result ≡ Some (Operation.Unary op ty d a) }
-        ensures mask { result.m ≡ 0 }
-    {
-        Instr {
-            op: 5,
-            ty: type_number(ty),
-            m: 0,
-            d,
-            a,
-            imm: immediate(0, unary_number(op)),
+        match operation {
+            Operation::Const { ty, d, value } => of_fields(
+                Opcode::Const as u8,
+                u8::from(ty),
+                mask,
+                d,
+                0,
+                value.0,
+            ),
+            Operation::Copy { d, a } => of_fields(Opcode::Copy as u8, 0, mask, d, a, 0),
+            Operation::Convert { d, a } => of_fields(Opcode::Convert as u8, 0, mask, d, a, 0),
+            Operation::Binary { op, ty, d, a, b } => of_fields(
+                Opcode::Binary as u8,
+                u8::from(ty),
+                mask,
+                d,
+                a,
+                immediate(b, operator_number(op)),
+            ),
+            Operation::Compare { op, ty, d, a, b } => of_fields(
+                Opcode::Compare as u8,
+                u8::from(ty),
+                mask,
+                d,
+                a,
+                immediate(b, comparison_number(op)),
+            ),
+            Operation::Unary { op, ty, d, a } => of_fields(
+                Opcode::Unary as u8,
+                u8::from(ty),
+                mask,
+                d,
+                a,
+                immediate(0, unary_number(op)),
+            ),
+            Operation::Lane { d } => of_fields(Opcode::Lane as u8, 0, mask, d, 0, 0),
+            Operation::Load { d, a } => of_fields(Opcode::Load as u8, 0, mask, d, a, 0),
+            Operation::Store { a, b } => of_fields(
+                Opcode::Store as u8,
+                0,
+                mask,
+                0,
+                a,
+                immediate(b, 0),
+            ),
+            Operation::PtrAdd { d, a, b } => of_fields(
+                Opcode::PtrAdd as u8,
+                0,
+                mask,
+                d,
+                a,
+                immediate(b, 0),
+            ),
+            Operation::Addr { d, object } => of_fields(
+                Opcode::Addr as u8,
+                0,
+                mask,
+                d,
+                0,
+                immediate(0, object),
+            ),
+            Operation::MaskOf { d, a } => of_fields(Opcode::MaskOf as u8, 0, mask, d, a, 0),
+            Operation::MaskAnd { d, a, b } => of_fields(
+                Opcode::MaskAnd as u8,
+                0,
+                mask,
+                d,
+                a,
+                immediate(b, 0),
+            ),
+            Operation::MaskOr { d, a, b } => of_fields(
+                Opcode::MaskOr as u8,
+                0,
+                mask,
+                d,
+                a,
+                immediate(b, 0),
+            ),
+            Operation::MaskBut { d, a, b } => of_fields(
+                Opcode::MaskBut as u8,
+                0,
+                mask,
+                d,
+                a,
+                immediate(b, 0),
+            ),
+            Operation::Loop { count } => of_fields(
+                Opcode::Loop as u8,
+                0,
+                mask,
+                0,
+                0,
+                immediate(0, count),
+            ),
+            Operation::Call { slot } => of_fields(
+                Opcode::Call as u8,
+                0,
+                mask,
+                0,
+                0,
+                immediate(0, slot),
+            ),
+            Operation::Print { a } => of_fields(Opcode::Print as u8, 0, mask, 0, a, 0),
+            Operation::SimdLoop { number } => of_fields(
+                Opcode::SimdLoop as u8,
+                0,
+                mask,
+                0,
+                0,
+                immediate(0, number),
+            ),
         }
     }
 
@@ -141,103 +254,160 @@ impl Instr {
     pub fn operation(&self) -> Option<Operation>
         ensures { result ≡ operation_of self.now }
     {
-        if !self.has_zeros() {
-            return None;
+        match Opcode::try_from(self.op) {
+            Ok(opcode) => {
+                if self.has_zeros(opcode.fields()) {
+                    self.operation_by(opcode)
+                } else {
+                    None
+                }
+            }
+            Err(_) => None,
         }
-        let ty = read_type(self.ty)?;
-        let (d, a, b) = (self.d, self.a, (self.imm & 0xffff) as u16);
-        let x = (self.imm >> 32) as u32;
-        match self.op {
-            0 => Some(Operation::Const {
-                ty,
-                d,
-                value: Word(self.imm),
-            }),
-            2 => Some(Operation::Convert { d, a }),
-            3 => {
-                let op = read_operator(x)?;
-                Some(Operation::Binary { op, ty, d, a, b })
-            }
-            4 => {
-                let op = read_comparison(x)?;
-                Some(Operation::Compare { op, ty, d, a, b })
-            }
-            5 => {
-                let op = read_unary(x)?;
-                Some(Operation::Unary { op, ty, d, a })
-            }
+    }
+
+    /// How many instructions its block has, where it has one.
+    pub fn block(&self) -> Option<u32>
+        ensures { result ≡ block_of self.now }
+    {
+        match self.operation() {
+            Some(Operation::Loop { count }) => Some(count),
             _ => None,
         }
     }
 
-    // Whether the fields that the instruction does not use are 0.
-    fn has_zeros(&self) -> bool
-        ensures { result ≡ has_zeros self.now }
+    // Whether the fields that are not used are 0.
+    fn has_zeros(&self, used: Fields) -> bool
+        ensures { result ≡ has_zeros used self.now }
     {
-        let b = self.imm & 0xffff;
-        let c = (self.imm >> 16) & 0xffff;
-        match self.op {
-            0 => self.a == 0,
-            2 => self.ty == 0 && self.imm == 0,
-            5 => b == 0 && c == 0,
-            _ => c == 0,
+        (used.ty || self.ty == 0)
+            && (used.m || self.m == 0)
+            && (used.d || self.d == 0)
+            && (used.a || self.a == 0)
+            && (used.b || self.b() == 0)
+            && (used.c || self.c() == 0)
+            && (used.x || self.x() == 0)
+    }
+
+    fn b(&self) -> u16
+        ensures { result ≡ field_b self.now.imm }
+    {
+        (self.imm & 0xffff) as u16
+    }
+
+    fn c(&self) -> u16
+        ensures { result ≡ field_c self.now.imm }
+    {
+        ((self.imm >> 16) & 0xffff) as u16
+    }
+
+    fn x(&self) -> u32
+        ensures { result ≡ field_x self.now.imm }
+    {
+        (self.imm >> 32) as u32
+    }
+
+    // What the fields stand for, by the instruction.
+    fn operation_by(&self, opcode: Opcode) -> Option<Operation>
+        ensures { result ≡ operation_by opcode self.now }
+    {
+        let (d, a, b, x) = (self.d, self.a, self.b(), self.x());
+        match opcode {
+            Opcode::Const => {
+                let ty = read_type(self.ty)?;
+                Some(Operation::Const {
+                    ty,
+                    d,
+                    value: Word(self.imm),
+                })
+            }
+            Opcode::Copy => Some(Operation::Copy { d, a }),
+            Opcode::Convert => Some(Operation::Convert { d, a }),
+            Opcode::Binary => {
+                let ty = read_type(self.ty)?;
+                let op = read_operator(x)?;
+                Some(Operation::Binary { op, ty, d, a, b })
+            }
+            Opcode::Compare => {
+                let ty = read_type(self.ty)?;
+                let op = read_comparison(x)?;
+                Some(Operation::Compare { op, ty, d, a, b })
+            }
+            Opcode::Unary => {
+                let ty = read_type(self.ty)?;
+                let op = read_unary(x)?;
+                Some(Operation::Unary { op, ty, d, a })
+            }
+            Opcode::Lane => Some(Operation::Lane { d }),
+            Opcode::Load => Some(Operation::Load { d, a }),
+            Opcode::Store => Some(Operation::Store { a, b }),
+            Opcode::PtrAdd => Some(Operation::PtrAdd { d, a, b }),
+            Opcode::Addr => Some(Operation::Addr { d, object: x }),
+            Opcode::MaskOf => Some(Operation::MaskOf { d, a }),
+            Opcode::MaskAnd => Some(Operation::MaskAnd { d, a, b }),
+            Opcode::MaskOr => Some(Operation::MaskOr { d, a, b }),
+            Opcode::MaskBut => Some(Operation::MaskBut { d, a, b }),
+            Opcode::Loop => Some(Operation::Loop { count: x }),
+            Opcode::Call => Some(Operation::Call { slot: x }),
+            Opcode::Print => Some(Operation::Print { a }),
+            Opcode::SimdLoop => Some(Operation::SimdLoop { number: x }),
         }
     }
 }
 
+// The instruction with these fields.
+fn of_fields(op: u8, ty: u8, m: u16, d: u16, a: u16, imm: u64) -> Instr
+    ensures { result ≡ record { op = op; ty = ty; m = m; d = d; a = a; imm = imm } }
+{
+    Instr {
+        op,
+        ty,
+        m,
+        d,
+        a,
+        imm,
+    }
+}
+
 // The immediate with these fields b and x, whose field c is 0.
-fn immediate(b: u16, x: u8) -> u64
+fn immediate(b: u16, x: u32) -> u64
     ensures b { field_b result ≡ b }
     ensures c { field_c result ≡ 0 }
     ensures x { field_x result ≡ x }
 {
-    u64::from(b) + u64::from(x) * (1 << 32)
-}
-
-// The number of a type.
-fn type_number(ty: Ty) -> u8
-    ensures { type_numbered result ≡ Some ty }
-{
-    ty as u8
+    u64::from(b) + (u64::from(x) << 32)
 }
 
 // The number of an operator of `Binary`.
-fn operator_number(op: Op2) -> u8
+fn operator_number(op: Op2) -> u32
     requires { IsArithmetic op }
     ensures { operator_numbered result ≡ Some op }
 {
-    op as u8
+    op as u32
 }
 
 // The number of an operator of `Compare`.
-fn comparison_number(op: Op2) -> u8
+fn comparison_number(op: Op2) -> u32
     requires { IsComparison op }
     ensures { comparison_numbered result ≡ Some op }
 {
-    op as u8 - Op2::Eq as u8
+    op as u32 - Op2::Eq as u32
 }
 
 // The number of an operator of `Unary`.
-fn unary_number(op: Op1) -> u8
+fn unary_number(op: Op1) -> u32
     ensures { unary_numbered result ≡ Some op }
 {
-    op as u8
+    op as u32
 }
 
 // The type with this number.
 fn read_type(number: u8) -> Option<Ty>
     ensures { result ≡ type_numbered number }
 {
-    match number {
-        0 => Some(Ty::I8),
-        1 => Some(Ty::I16),
-        2 => Some(Ty::I32),
-        3 => Some(Ty::I64),
-        4 => Some(Ty::U8),
-        5 => Some(Ty::U16),
-        6 => Some(Ty::U32),
-        7 => Some(Ty::U64),
-        _ => None,
+    match Ty::try_from(number) {
+        Ok(ty) => Some(ty),
+        Err(_) => None,
     }
 }
 

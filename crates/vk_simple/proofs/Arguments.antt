@@ -12,9 +12,9 @@ use Rattle.vk_kinds.specs.declared.heads.CType.{CType}
 use Rattle.vk_ast.specs.declared.names.NameId.{NameId}
 use Rattle.vk_ast.specs.declared.items.ParamDecl.{ParamDecl}
 use Rattle.vk_ast.specs.Tree.{Tree}
-use Rattle.vk_code.specs.declared.code.Code.{Code}
-use Rattle.vk_code.specs.Code.{types_of}
-use Rattle.vk_code.specs.Lane.{Lane}
+use Rattle.vk_line.specs.declared.code.Code.{Code}
+use Rattle.vk_line.specs.Code.{types_of}
+use Rattle.vk_line.specs.Lane.{Lane}
 use Rattle.vk_numbers.specs.Values.{got}
 use Rattle.vk_simple.specs.declared.emitter.Place.{Place}
 use Rattle.vk_simple.specs.Inner.Emission.{AreRegisters, HasArguments, Returns}

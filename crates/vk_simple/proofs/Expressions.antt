@@ -14,10 +14,10 @@ use Rattle.vk_ast.specs.declared.items.ParamDecl.{ParamDecl}
 use Rattle.vk_ast.specs.declared.expressions.UnOp.{UnOp}
 use Rattle.vk_ast.specs.declared.expressions.BinOp.{BinOp}
 use Rattle.vk_ast.specs.Tree.{Tree, int, name, unary, binary, cast}
-use Rattle.vk_code.specs.declared.code.Code.{Code}
-use Rattle.vk_code.specs.declared.instruction.Instr.{Instr}
-use Rattle.vk_code.specs.Code.{IsValid, IsValidInstr, integer_of, types_of}
-use Rattle.vk_code.specs.Lane.{Lane, is_live, run}
+use Rattle.vk_line.specs.declared.code.Code.{Code}
+use Rattle.vk_line.specs.declared.instruction.Instr.{Instr}
+use Rattle.vk_line.specs.Code.{IsValid, IsValidInstr, integer_of, types_of}
+use Rattle.vk_line.specs.Lane.{Lane, is_live, run}
 use Rattle.vk_numbers.specs.Values.{Value, got, with_value, converted}
 use Rattle.vk_mean.specs.Types.{type_of}
 use Rattle.vk_numbers.specs.Operators.{unary_value, binary_value}

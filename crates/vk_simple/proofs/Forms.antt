@@ -13,7 +13,7 @@ use Rattle.vk_ast.specs.declared.nodes.TheConstants.{MAX_NODES}
 use Rattle.vk_ast.specs.Statements.{StmtTree, StmtTrees, block, return_value, no_stmts, more_stmts, stmt_nodes, all_stmt_nodes}
 use Rattle.vk_ast.specs.Tree.{Tree, nodes_of}
 use Rattle.vk_ast.specs.Units.{FunctionTree, body_nodes, function_nodes}
-use Rattle.vk_code.specs.Code.{HasType, types_of}
+use Rattle.vk_line.specs.Code.{HasType, types_of}
 use Rattle.vk_simple.specs.Inner.Emission.{AreRegisters}
 use Rattle.vk_simple.specs.Form.{CanCompile, are_integers, has_one_directive, have_short_names, is_form, is_free, is_new, is_short, returned_alone, returned_by, returned_in}
 use Rattle.vk_simple.specs.Parameters.{heads_of, is_simple}

@@ -9,7 +9,7 @@ use Rattle.vk_types.specs.Operators.{op1_number}
 use Rattle.vk_numbers.specs.Operators.{in_type, shifted}
 use Rattle.vk_types.specs.Numbers.{number_of, wrap_number}
 use Rattle.vk_kinds.specs.declared.heads.CType.TheVariants.{Int}
-use Rattle.vk_code.specs.Lane.{Lane}
+use Rattle.vk_line.specs.Lane.{Lane}
 use Rattle.vk_numbers.specs.Values.{Value, got, converted}
 use Rattle.vk_simple.specs.declared.emitter.Emitter.{Emitter}
 use Rattle.vk_simple.specs.declared.emitter.Place.{Place}

@@ -10,12 +10,12 @@ use Rattle.vk_types.specs.declared.types.Op2.{Op2}
 use Rattle.vk_types.specs.declared.types.Op2.TheVariants as ops
 use Rattle.vk_kinds.specs.declared.heads.CType.{CType}
 use Rattle.vk_kinds.specs.declared.heads.CType.TheVariants.{Int}
-use Rattle.vk_code.specs.declared.instruction.Instr.{Instr}
-use Rattle.vk_code.specs.declared.instruction.Operation.{Operation}
-use Rattle.vk_code.specs.declared.instruction.Operation.TheVariants.{Const, Convert, Binary, Compare, Unary}
-use Rattle.vk_code.specs.Instruction.{operation_of}
-use Rattle.vk_code.specs.Code.{HasRightType, HasType, IsValidInstr, IsValidOperation}
-use Rattle.vk_code.specs.Lane.{Lane, act, act_if_some, is_live, run, step, with_reg}
+use Rattle.vk_line.specs.declared.instruction.Instr.{Instr}
+use Rattle.vk_line.specs.declared.instruction.Operation.{Operation}
+use Rattle.vk_line.specs.declared.instruction.Operation.TheVariants.{Const, Convert, Binary, Compare, Unary}
+use Rattle.vk_line.specs.Instruction.{operation_of}
+use Rattle.vk_line.specs.Code.{HasRightType, HasType, IsValidInstr, IsValidOperation}
+use Rattle.vk_line.specs.Lane.{Lane, act, act_if_some, is_live, run, step, with_reg}
 use Rattle.vk_simple.specs.declared.emitter.Emitter.{Emitter}
 use Rattle.vk_simple.specs.Inner.Emission.{Agrees, Appends, Follows}
 

@@ -10,11 +10,11 @@ use Rattle.vk_types.specs.Numbers.{IsCanonical, IsInRange, number_of, word_of, w
 use Rattle.vk_types.specs.Operators.{op1_number, op2_number, result_type}
 use Rattle.vk_kinds.specs.declared.heads.CType.{CType}
 use Rattle.vk_kinds.specs.declared.heads.CType.TheVariants.{Int}
-use Rattle.vk_code.specs.declared.instruction.Instr.{Instr}
-use Rattle.vk_code.specs.declared.instruction.Operation.TheVariants.{Const, Convert, Binary, Compare, Unary}
-use Rattle.vk_code.specs.Instruction.{IsArithmetic, IsComparison, operation_of}
-use Rattle.vk_code.specs.Code.{HasRightType, HasType, IsPromoted}
-use Rattle.vk_code.specs.Lane.{Lane, with_reg, with_result}
+use Rattle.vk_line.specs.declared.instruction.Instr.{Instr}
+use Rattle.vk_line.specs.declared.instruction.Operation.TheVariants.{Const, Convert, Binary, Compare, Unary}
+use Rattle.vk_line.specs.Instruction.{IsArithmetic, IsComparison, operation_of}
+use Rattle.vk_line.specs.Code.{HasRightType, HasType, IsPromoted}
+use Rattle.vk_line.specs.Lane.{Lane, with_reg, with_result}
 use Rattle.vk_numbers.specs.Values.{got, converted, value_of_result}
 use Rattle.vk_numbers.proofs.Numbers.{number_of-word, op1_in_range, op2_in_range, wrap_in_range, wrap_keeps}
 use Rattle.vk_simple.specs.declared.emitter.Emitter.{Emitter}

@@ -16,12 +16,12 @@ use Rattle.vk_types.specs.Numbers.{IsCanonical, number_of}
 use Rattle.vk_types.specs.Operators.{HasNumber, op2_number, result_type}
 use Rattle.vk_kinds.specs.declared.heads.CType.{CType}
 use Rattle.vk_kinds.specs.declared.heads.CType.TheVariants.{Int}
-use Rattle.vk_code.specs.declared.instruction.Instr.{Instr}
-use Rattle.vk_code.specs.declared.instruction.Operation.{Operation}
-use Rattle.vk_code.specs.declared.instruction.Operation.TheVariants.{Const, Convert, Binary, Compare, Unary}
-use Rattle.vk_code.specs.Instruction.{operation_of}
-use Rattle.vk_code.specs.Code.{HasRightType, HasType, IsValidInstr, IsValidOperation, integer_of, types_of}
-use Rattle.vk_code.specs.Lane.{Lane, act, act_if_some, run, step, with_reg, with_result}
+use Rattle.vk_line.specs.declared.instruction.Instr.{Instr}
+use Rattle.vk_line.specs.declared.instruction.Operation.{Operation}
+use Rattle.vk_line.specs.declared.instruction.Operation.TheVariants.{Const, Convert, Binary, Compare, Unary}
+use Rattle.vk_line.specs.Instruction.{operation_of}
+use Rattle.vk_line.specs.Code.{HasRightType, HasType, IsValidInstr, IsValidOperation, integer_of, types_of}
+use Rattle.vk_line.specs.Lane.{Lane, act, act_if_some, run, step, with_reg, with_result}
 use Rattle.vk_numbers.proofs.Numbers.{word_of-number}
 use Rattle.vk_simple.specs.Inner.Machine.{AreCanonical, HasSomeType, lane_of, target_of, word_in}
 

@@ -8,7 +8,7 @@ use Rattle.vk_ast.specs.declared.items.ParamDecl.{ParamDecl}
 use Rattle.vk_ast.specs.declared.expressions.BinOp.{BinOp}
 use Rattle.vk_ast.specs.declared.expressions.BinOp.TheVariants.{Div, Rem, LogAnd, LogOr}
 use Rattle.vk_ast.specs.Tree.{Tree, int, name, index, deref, addr, unary, binary, choice, cast, call}
-use Rattle.vk_code.specs.Code.{types_of}
+use Rattle.vk_line.specs.Code.{types_of}
 use Rattle.vk_numbers.specs.Values.{Value, with_value, converted}
 use Rattle.vk_mean.specs.Expressions.{value_of}
 

@@ -2,7 +2,7 @@
 
 ghost use Rattle.std.specs.Prelude.{◌≡◌, ◌+◌, ◌*◌, ◌≤◌, length, map, IfOk, IfSome, IsSome, IsTrue, Some};
 ghost use Rattle.vk_ast.specs.Tree.{expr_of, nodes_of};
-ghost use Rattle.vk_code.specs.Code.{IsValid, integer_of};
+ghost use Rattle.vk_line.specs.Code.{IsValid, integer_of};
 ghost use Rattle.vk_mean.specs.Types.{type_of};
 ghost use Rattle.vk_simple.specs.declared.emitter.Place.{Place};
 ghost use Rattle.vk_simple.specs.Inner.Emission.{Appends, AreRegisters, Evaluates, IsPlace, Returns};
@@ -12,7 +12,7 @@ ghost use Rattle.vk_simple.specs.Parameters.{heads_of, is_name, is_simple, place
 use crate::emitter::{Emitter, Place};
 use std::alloc::{AllocError, Global};
 use vk_ast::{Expr, ExprKind, NameId, ParamDecl};
-use vk_code::Code;
+use vk_line::Code;
 use vk_kinds::{CType, MAX_PARAMETERS};
 use vk_types::Ty;
 

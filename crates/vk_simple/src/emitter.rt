@@ -5,8 +5,8 @@ ghost use Rattle.vk_types.specs.declared.types.Ty.TheVariants.{I32};
 ghost use Rattle.vk_types.specs.Conversions.{common_type, promoted};
 ghost use Rattle.vk_types.specs.Numbers.{IsCanonical, number_of, wrap_number};
 ghost use Rattle.vk_types.specs.Operators.{op1_number};
-ghost use Rattle.vk_code.specs.Code.{IsPromoted};
-ghost use Rattle.vk_code.specs.Instruction.{IsComparison};
+ghost use Rattle.vk_line.specs.Code.{IsPromoted};
+ghost use Rattle.vk_line.specs.Instruction.{IsComparison};
 ghost use Rattle.vk_numbers.specs.Values.{got, converted};
 ghost use Rattle.vk_numbers.specs.Types.{binary_type, unary_type};
 ghost use Rattle.vk_numbers.specs.Operators.{binary_value, in_type, shifted, unary_value};
@@ -15,7 +15,7 @@ ghost use Rattle.vk_simple.specs.Parameters.{is_simple_operator};
 
 use std::alloc::{AllocError, Global};
 use vk_ast::{BinOp, UnOp};
-use vk_code::Instr;
+use vk_line::Instr;
 use vk_kinds::CType;
 use vk_types::{Op1, Op2, Ty, Word, common, promote, wrap};
 

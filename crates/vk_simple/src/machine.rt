@@ -3,13 +3,13 @@
 ghost use Rattle.std.specs.Prelude.{◌≡◌, ℕ, ◌<◌, ◌≤◌, length, IfErr, IfOk, OnOk, Some};
 ghost use Rattle.vk_types.specs.declared.types.Ty.{Ty};
 ghost use Rattle.vk_types.specs.Numbers.{IsCanonical};
-ghost use Rattle.vk_code.specs.Code.{HasType, IsValid, IsValidInstr, IsValidOperation, types_of};
-ghost use Rattle.vk_code.specs.Lane.{act, step, with_reg};
+ghost use Rattle.vk_line.specs.Code.{HasType, IsValid, IsValidInstr, IsValidOperation, types_of};
+ghost use Rattle.vk_line.specs.Lane.{act, step, with_reg};
 ghost use Rattle.vk_simple.specs.Inner.Machine.{AreCanonical, lane_after, lane_of, target_of, word_in, HasSomeType};
 
 use crate::compile::integer;
 use std::alloc::{AllocError, Global};
-use vk_code::{Code, Instr, Operation};
+use vk_line::{Code, Instr, Operation};
 use vk_kinds::CType;
 use vk_types::{Stop, Ty, Word, convert, op1, op2};
 

@@ -4,7 +4,7 @@ use Rattle.vk_types.specs.declared.types.Ty.{Ty}
 use Rattle.vk_types.specs.declared.types.Word.{Word}
 use Rattle.vk_types.specs.Numbers.{IsCanonical, IsInRange, number_of}
 use Rattle.vk_kinds.specs.declared.heads.CType.{CType}
-use Rattle.vk_code.specs.Code.{integer_of}
+use Rattle.vk_line.specs.Code.{integer_of}
 use Rattle.vk_call.specs.Arguments.{IsFaultOfValues, value_of_lane, values_at, values_of}
 
 -- the word of a lane, 0 where there is none

@@ -11,10 +11,10 @@ use Rattle.vk_kinds.specs.declared.heads.CType.TheVariants.{Int}
 use Rattle.vk_ast.specs.declared.names.NameId.{NameId}
 use Rattle.vk_ast.specs.declared.items.ParamDecl.{ParamDecl}
 use Rattle.vk_ast.specs.Tree.{Tree}
-use Rattle.vk_code.specs.declared.instruction.Instr.{Instr}
-use Rattle.vk_code.specs.declared.code.Code.{Code}
-use Rattle.vk_code.specs.Code.{HasType, IsValidInstr, types_of}
-use Rattle.vk_code.specs.Lane.{Lane, is_live, run}
+use Rattle.vk_line.specs.declared.instruction.Instr.{Instr}
+use Rattle.vk_line.specs.declared.code.Code.{Code}
+use Rattle.vk_line.specs.Code.{HasType, IsValidInstr, types_of}
+use Rattle.vk_line.specs.Lane.{Lane, is_live, run}
 use Rattle.vk_numbers.specs.Values.{Value, got, with_value, converted, value_of_result}
 use Rattle.vk_mean.specs.Expressions.{value_of}
 use Rattle.vk_simple.specs.declared.emitter.Emitter.{Emitter}

@@ -4,11 +4,11 @@ use Rattle.vk_types.specs.declared.types.Ty.{Ty}
 use Rattle.vk_types.specs.declared.types.Word.{Word}
 use Rattle.vk_types.specs.Numbers.{IsCanonical, number_of}
 use Rattle.vk_kinds.specs.declared.heads.CType.{CType}
-use Rattle.vk_code.specs.declared.code.Code.{Code}
-use Rattle.vk_code.specs.declared.instruction.Operation.{Operation}
-use Rattle.vk_code.specs.declared.instruction.Operation.TheVariants.{Const, Convert, Binary, Compare, Unary}
-use Rattle.vk_code.specs.Code.{HasType, integer_of, types_of}
-use Rattle.vk_code.specs.Lane.{Lane, run}
+use Rattle.vk_line.specs.declared.code.Code.{Code}
+use Rattle.vk_line.specs.declared.instruction.Operation.{Operation}
+use Rattle.vk_line.specs.declared.instruction.Operation.TheVariants.{Const, Convert, Binary, Compare, Unary}
+use Rattle.vk_line.specs.Code.{HasType, integer_of, types_of}
+use Rattle.vk_line.specs.Lane.{Lane, run}
 
 -- the word of a register, 0 where there is none
 abbrev pub word_in : List Word → ℕ → ℕ

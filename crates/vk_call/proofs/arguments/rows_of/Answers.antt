@@ -4,7 +4,7 @@ use Rattle.std.specs.Global.{Vec}
 use Rattle.std.proofs.lemmas.List.{length-map, length-take-le, map-append, take_more}
 use Rattle.vk_types.specs.declared.types.Ty.{Ty}
 use Rattle.vk_types.specs.declared.types.Word.{Word}
-use Rattle.vk_code.specs.Code.{types_of}
+use Rattle.vk_line.specs.Code.{types_of}
 use Rattle.vk_call.specs.Arguments.{IsFaultOfValues, values_at, values_of}
 use Rattle.vk_call.specs.Inner.Rows.{AreOfType, AreRows, IsLeastWrong, IsRow}
 use Rattle.vk_call.proofs.Rows.{rows_more, rows_none, types_at}

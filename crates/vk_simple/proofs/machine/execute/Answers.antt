@@ -1,7 +1,7 @@
 -- The register that is written, and what is written there.
 use Rattle.std.proofs.Common.{◌≡◌, ◌<◌, length, sym, ◌∙◌, refl, arith, rules, Some}
-use Rattle.vk_code.specs.Code.{IsValidOperation, types_of}
-use Rattle.vk_code.specs.Instruction.{operation_of}
+use Rattle.vk_line.specs.Code.{IsValidOperation, types_of}
+use Rattle.vk_line.specs.Instruction.{operation_of}
 use Rattle.vk_simple.specs.Inner.Machine.{lane_of, target_of}
 use Rattle.vk_simple.proofs.Pieces.{step_live}
 use Rattle.vk_simple.proofs.Words.{canonical-set, lane_of-set, target_inside}

@@ -1,8 +1,8 @@
 -- The first words, one more instruction, and a stop.
 use Rattle.std.proofs.Common.{ap, sym, ◌∙◌, subst, rules}
 use Rattle.vk_types.specs.Numbers.{IsCanonical}
-use Rattle.vk_code.specs.Code.{types_of}
-use Rattle.vk_code.specs.Lane.{Lane, run}
+use Rattle.vk_line.specs.Code.{types_of}
+use Rattle.vk_line.specs.Lane.{Lane, run}
 use Rattle.vk_simple.specs.Inner.Machine.{lane_after, lane_of}
 use Rattle.vk_simple.proofs.Words.{run-drop, stopped_rest, valid_at}
 use Rattle.vk_simple.proofs.machine.run.Goals as goal

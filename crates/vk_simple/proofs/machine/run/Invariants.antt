@@ -1,7 +1,7 @@
 -- What is left to run, on the words as they are, gives what the whole code gives on the first ones.
 use Rattle.std.proofs.Common.{◌≡◌, length, drop}
-use Rattle.vk_code.specs.Code.{types_of}
-use Rattle.vk_code.specs.Lane.{run}
+use Rattle.vk_line.specs.Code.{types_of}
+use Rattle.vk_line.specs.Lane.{run}
 use Rattle.vk_simple.specs.Inner.Machine.{AreCanonical, lane_after, lane_of}
 use Rattle.vk_simple.proofs.machine.run.Given as goal
 

@@ -1,5 +1,5 @@
 use Rattle.std.proofs.Common.{refl, subst}
-use Rattle.vk_code.specs.Code.{HasType}
+use Rattle.vk_line.specs.Code.{HasType}
 use Rattle.vk_simple.proofs.Pieces.{IfOk-map}
 use Rattle.vk_simple.proofs.Steps.{operate, old_type, plain_arithmetic, plain_result, plain_right, plain_type}
 use Rattle.vk_simple.proofs.emitter.Emitter.operate.Goals as goal

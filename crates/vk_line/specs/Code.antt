@@ -10,12 +10,12 @@ use Rattle.vk_types.specs.Conversions.{promoted}
 use Rattle.vk_types.specs.Numbers.{IsCanonical}
 use Rattle.vk_kinds.specs.declared.heads.CType.{CType}
 use Rattle.vk_kinds.specs.declared.heads.CType.TheVariants.{Void, Int, Ptr}
-use Rattle.vk_code.specs.declared.code.Code.{Code}
-use Rattle.vk_code.specs.declared.instruction.Instr.{Instr}
-use Rattle.vk_code.specs.declared.instruction.Operation.{Operation}
-use Rattle.vk_code.specs.declared.instruction.Operation.TheVariants.{Const, Convert, Binary, Compare, Unary}
-use Rattle.vk_code.specs.Instruction.{IsArithmetic, IsComparison, operation_of}
-use Rattle.vk_code.specs.Lane.{Lane, run}
+use Rattle.vk_line.specs.declared.code.Code.{Code}
+use Rattle.vk_line.specs.declared.instruction.Instr.{Instr}
+use Rattle.vk_line.specs.declared.instruction.Operation.{Operation}
+use Rattle.vk_line.specs.declared.instruction.Operation.TheVariants.{Const, Convert, Binary, Compare, Unary}
+use Rattle.vk_line.specs.Instruction.{IsArithmetic, IsComparison, operation_of}
+use Rattle.vk_line.specs.Lane.{Lane, run}
 
 -- register r has the integer type t
 abbrev pub HasType : List CType → ℕ → Ty → Type 0

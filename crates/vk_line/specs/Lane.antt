@@ -4,10 +4,10 @@ use Rattle.vk_types.specs.declared.types.Ty.{Ty}
 use Rattle.vk_types.specs.declared.types.Stop.{Stop}
 use Rattle.vk_types.specs.Numbers.{number_of, word_of, wrap_number}
 use Rattle.vk_types.specs.Operators.{op1_number, op2_number}
-use Rattle.vk_code.specs.declared.instruction.Instr.{Instr}
-use Rattle.vk_code.specs.declared.instruction.Operation.{Operation}
-use Rattle.vk_code.specs.declared.instruction.Operation.TheVariants.{Const, Convert, Binary, Compare, Unary}
-use Rattle.vk_code.specs.Instruction.{operation_of}
+use Rattle.vk_line.specs.declared.instruction.Instr.{Instr}
+use Rattle.vk_line.specs.declared.instruction.Operation.{Operation}
+use Rattle.vk_line.specs.declared.instruction.Operation.TheVariants.{Const, Convert, Binary, Compare, Unary}
+use Rattle.vk_line.specs.Instruction.{operation_of}
 
 -- a lane: the pattern in each register, whether it is on in each mask, and the stop that ended it, if one did
 pub record Lane : Type 0 where

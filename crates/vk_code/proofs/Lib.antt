@@ -1,0 +1,5 @@
+pub mod Examples
+pub mod Faults
+pub mod Nesting
+pub mod Pairs
+pub mod Sections
