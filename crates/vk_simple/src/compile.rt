@@ -12,8 +12,8 @@ ghost use Rattle.vk_simple.specs.Parameters.{heads_of, is_name, is_simple, place
 use crate::emitter::{Emitter, Place};
 use std::alloc::{AllocError, Global};
 use vk_ast::{Expr, ExprKind, NameId, ParamDecl};
-use vk_line::Code;
 use vk_kinds::{CType, MAX_PARAMETERS};
+use vk_line::Code;
 use vk_types::Ty;
 
 /// The lane code of a function that returns the expression, converted to `ty`: the parameters' registers first, then one of its

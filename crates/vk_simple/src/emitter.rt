@@ -15,8 +15,8 @@ ghost use Rattle.vk_simple.specs.Parameters.{is_simple_operator};
 
 use std::alloc::{AllocError, Global};
 use vk_ast::{BinOp, UnOp};
-use vk_line::Instr;
 use vk_kinds::CType;
+use vk_line::Instr;
 use vk_types::{Op1, Op2, Ty, Word, common, promote, wrap};
 
 /// Instructions so far, and the types of the registers that they use.

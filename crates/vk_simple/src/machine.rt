@@ -9,8 +9,8 @@ ghost use Rattle.vk_simple.specs.Inner.Machine.{AreCanonical, lane_after, lane_o
 
 use crate::compile::integer;
 use std::alloc::{AllocError, Global};
-use vk_line::{Code, Instr, Operation};
 use vk_kinds::CType;
+use vk_line::{Code, Instr, Operation};
 use vk_types::{Stop, Ty, Word, convert, op1, op2};
 
 /// The registers of a lane after the code was called with these words in the first ones and 0 in the others, or the stop that
