@@ -44,16 +44,16 @@ state_ends state params bytes answer (fault f refused) is = fault_ended f refuse
 
 -- ---- the state after some bytes
 
-after_more : (so_far : State × List Param) (fed bytes : List ℕ) → StateIs so_far.1 fed so_far.0
-    → StateIs (fold (λ s b. state_on s.0 s.1 b) so_far bytes).1 (fed ++ bytes) (fold (λ s b. state_on s.0 s.1 b) so_far bytes).0
-after_more so_far fed [] is = subst (λ (t : List ℕ). StateIs so_far.1 t so_far.0) (sym (append-nil fed)) is
-after_more so_far fed (b ∷ bs) is =
-    let next : State × List Param = state_on so_far.0 so_far.1 b in
-    subst (λ (t : List ℕ). StateIs (fold (λ s b. state_on s.0 s.1 b) next bs).1 t (fold (λ s b. state_on s.0 s.1 b) next bs).0) (append_assoc fed (b ∷ []) bs)
-    (after_more next (fed ++ (b ∷ [])) bs (state_is so_far.0 so_far.1 fed b is))
+after_more : (state : State) (params : List Param) (fed bytes : List ℕ) → StateIs params fed state → StateIs (from state params bytes).1 (fed ++ bytes) (from state params bytes).0
+unfolding from
+after_more state params fed [] is = subst (λ (t : List ℕ). StateIs params t state) (sym (append-nil fed)) is
+after_more state params fed (b ∷ bs) is =
+    let next : State × List Param = state_on state params b in
+    subst (λ (t : List ℕ). StateIs (from next.0 next.1 bs).1 t (from next.0 next.1 bs).0) (append_assoc fed (b ∷ []) bs)
+    (after_more next.0 next.1 (fed ++ (b ∷ [])) bs (state_is state params fed b is))
 
 after_is : (bytes : List ℕ) → StateIs (after bytes).1 bytes (after bytes).0
-after_is bytes = after_more (Mark 0, []) [] bytes starts
+after_is bytes = after_more (Mark 0) [] [] bytes starts
 
 feed_is : (feed : NameFeed) (bytes : List ℕ) → Stands feed bytes → StateIs feed.params.items bytes feed.state
 unfolding Stands
@@ -73,5 +73,5 @@ fed_all old new piece fed bytes stands =
     fed ∙ ap (λ (s : State × List Param). fold (λ s b. state_on s.0 s.1 b) s piece) stands ∙ sym (fold-append (λ s b. state_on s.0 s.1 b) (Mark 0, []) bytes piece)
 
 pub begins : (feed : NameFeed) → feed.state ≡ Mark 0 → feed.params.items ≡ [] → Stands feed []
-unfolding Stands
+unfolding Stands from
 begins feed at none = ap (λ (s : State). (s, feed.params.items)) at ∙ ap (λ (ps : List Param). (Mark 0, ps)) none
