@@ -19,3 +19,4 @@ pub mod Feeding
 pub mod Answered
 pub mod StateAnswers
 pub mod Places
+pub mod ManyBytes

@@ -1,8 +1,8 @@
 -- What a state answers.
-use Rattle.std.proofs.Common.{◌≡◌, ℕ, ◌+◌, ◌<◌, ◌≤◌, List, [], ◌∷◌, ◌++◌, length, take, slice_index_or, Result, sym, ap, subst, ◌∙◌, append_assoc}
+use Rattle.std.proofs.Common.{◌≡◌, ℕ, List, [], ◌∷◌, ◌++◌, Result, sym, ap, subst, ◌∙◌, append_assoc}
 use Rattle.std.specs.List.{fold}
-use Rattle.std.proofs.lemmas.List.Sums.{fold-append, fold_more}
-use Rattle.std.proofs.lemmas.List.{append-nil, take_all}
+use Rattle.std.proofs.lemmas.List.Sums.{fold-append}
+use Rattle.std.proofs.lemmas.List.{append-nil}
 use Rattle.vk_kinds.specs.declared.kinds.Param.{Param}
 use Rattle.vk_names.specs.declared.rules.NameFault.{NameFault}
 use Rattle.vk_names.specs.declared.names.ReadName.{ReadName}
@@ -12,6 +12,7 @@ use Rattle.vk_names.specs.declared.feed.NameFeed.{NameFeed}
 use Rattle.vk_names.specs.declared.feed.Progress.{Progress}
 use Rattle.vk_names.specs.declared.feed.Progress.TheVariants.{More}
 use Rattle.vk_names.specs.Inner.Steps.{end_on, state_on}
+use Rattle.vk_names.specs.Inner.Many.{from}
 use Rattle.vk_names.specs.Inner.Feeds.{after, Stands, IsProgress, IsEnd}
 use Rattle.vk_names.proofs.Standing.{Reads, StateIs, reading, done, fault}
 use Rattle.vk_names.proofs.Feeding.{end_is, state_is, starts}
@@ -43,16 +44,16 @@ state_ends state params bytes answer (fault f refused) is = fault_ended f refuse
 
 -- ---- the state after some bytes
 
-after_more : (so_far : State × List Param) (fed bytes : List ℕ) → StateIs so_far.1 fed so_far.0
-    → StateIs (fold (λ s b. state_on s.0 s.1 b) so_far bytes).1 (fed ++ bytes) (fold (λ s b. state_on s.0 s.1 b) so_far bytes).0
-after_more so_far fed [] is = subst (λ (t : List ℕ). StateIs so_far.1 t so_far.0) (sym (append-nil fed)) is
-after_more so_far fed (b ∷ bs) is =
-    let next : State × List Param = state_on so_far.0 so_far.1 b in
-    subst (λ (t : List ℕ). StateIs (fold (λ s b. state_on s.0 s.1 b) next bs).1 t (fold (λ s b. state_on s.0 s.1 b) next bs).0) (append_assoc fed (b ∷ []) bs)
-    (after_more next (fed ++ (b ∷ [])) bs (state_is so_far.0 so_far.1 fed b is))
+after_more : (state : State) (params : List Param) (fed bytes : List ℕ) → StateIs params fed state → StateIs (from state params bytes).1 (fed ++ bytes) (from state params bytes).0
+unfolding from
+after_more state params fed [] is = subst (λ (t : List ℕ). StateIs params t state) (sym (append-nil fed)) is
+after_more state params fed (b ∷ bs) is =
+    let next : State × List Param = state_on state params b in
+    subst (λ (t : List ℕ). StateIs (from next.0 next.1 bs).1 t (from next.0 next.1 bs).0) (append_assoc fed (b ∷ []) bs)
+    (after_more next.0 next.1 (fed ++ (b ∷ [])) bs (state_is state params fed b is))
 
 after_is : (bytes : List ℕ) → StateIs (after bytes).1 bytes (after bytes).0
-after_is bytes = after_more (Mark 0, []) [] bytes starts
+after_is bytes = after_more (Mark 0) [] [] bytes starts
 
 feed_is : (feed : NameFeed) (bytes : List ℕ) → Stands feed bytes → StateIs feed.params.items bytes feed.state
 unfolding Stands
@@ -66,22 +67,11 @@ feed_ends feed bytes answer stands is = state_ends feed.state feed.params.items 
 
 -- ---- what a feed stands for after a piece
 
--- the feed after these bytes
-abbrev pub FedBy : NameFeed → List ℕ → NameFeed → Type 0
-FedBy old piece new = (new.state, new.params.items) ≡ fold (λ s b. state_on s.0 s.1 b) (old.state, old.params.items) piece
-
-pub fed_more : (old middle new : NameFeed) (piece : List ℕ) (at : ℕ) → at < length piece → FedBy old (take at piece) middle
-    → (new.state, new.params.items) ≡ state_on middle.state middle.params.items (slice_index_or piece at 0) → FedBy old (take (at + 1) piece) new
-fed_more old middle new piece at inside before last =
-    last ∙ ap (λ (s : State × List Param). state_on s.0 s.1 (slice_index_or piece at 0)) before
-    ∙ sym (fold_more (λ s b. state_on s.0 s.1 b) (old.state, old.params.items) piece at 0 inside)
-
-pub fed_all : (old new : NameFeed) (piece : List ℕ) (at : ℕ) → length piece ≤ at → FedBy old (take at piece) new → (bytes : List ℕ) → Stands old bytes → Stands new (bytes ++ piece)
-unfolding Stands
-fed_all old new piece at past fed bytes stands =
-    let all : FedBy old piece new = subst (λ (t : List ℕ). FedBy old t new) (take_all at piece past) fed in
-    all ∙ ap (λ (s : State × List Param). fold (λ s b. state_on s.0 s.1 b) s piece) stands ∙ sym (fold-append (λ s b. state_on s.0 s.1 b) (Mark 0, []) bytes piece)
+pub fed_all : (old new : NameFeed) (piece : List ℕ) → (new.state, new.params.items) ≡ from old.state old.params.items piece → (bytes : List ℕ) → Stands old bytes → Stands new (bytes ++ piece)
+unfolding Stands from
+fed_all old new piece fed bytes stands =
+    fed ∙ ap (λ (s : State × List Param). fold (λ s b. state_on s.0 s.1 b) s piece) stands ∙ sym (fold-append (λ s b. state_on s.0 s.1 b) (Mark 0, []) bytes piece)
 
 pub begins : (feed : NameFeed) → feed.state ≡ Mark 0 → feed.params.items ≡ [] → Stands feed []
-unfolding Stands
+unfolding Stands from
 begins feed at none = ap (λ (s : State). (s, feed.params.items)) at ∙ ap (λ (ps : List Param). (Mark 0, ps)) none

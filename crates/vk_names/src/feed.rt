@@ -4,12 +4,13 @@ ghost use Rattle.vk_names.specs.Spelling.{Name, text_of, name_in, Spells};
 ghost use Rattle.vk_names.specs.declared.rules.NameRule.{NameRule};
 ghost use Rattle.vk_names.specs.Refusal.{NameRefused};
 ghost use Rattle.vk_names.specs.Pieces.{told_at, is_ended, is_due, SaysRefused, IfMore, IfDone, IfFault, IsDoneAnd, IsFaultAnd};
-ghost use Rattle.vk_names.specs.Inner.Steps.{end_on, state_on};
+ghost use Rattle.vk_names.specs.Inner.Steps.{end_on};
 ghost use Rattle.vk_names.specs.Inner.Feeds.{Stands, IsRead, IsProgress, IsEnd};
 
 use crate::names::{NameHead, ReadName};
 use crate::rules::{NameFault, NameRule};
-use crate::states::{Found, State, end_on, state_on};
+use crate::shortcuts::run_on;
+use crate::states::{Found, State, end_on};
 use vk_kinds::Params;
 
 /// What a feed answers.
@@ -106,16 +107,7 @@ impl NameFeed {
     pub(crate) fn take_all(&mut self, piece: &[u8])
         ensures { (bytes : List ℕ) → Stands self.old bytes → Stands self.new (bytes ++ piece.now) }
     {
-        for byte in piece {
-            self.take(*byte);
-        }
-    }
-
-    /// Takes a byte.
-    fn take(&mut self, byte: u8)
-        ensures { (self.new.state, self.new.params.items) ≡ state_on self.old.state self.old.params.items byte }
-    {
-        self.state = state_on(self.state, &mut self.params, byte);
+        self.state = run_on(self.state, &mut self.params, piece);
     }
 
     /// The name that was found.

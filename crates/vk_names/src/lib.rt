@@ -6,6 +6,7 @@ pub mod laws;
 pub mod names;
 mod read;
 pub mod rules;
+mod shortcuts;
 mod states;
 mod steps;
 mod write;

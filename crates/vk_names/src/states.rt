@@ -67,7 +67,7 @@ fn mark_on(read: u8, byte: u8) -> State
 }
 
 /// After `_ZGV`.
-fn isa_on(byte: u8) -> State
+pub(crate) fn isa_on(byte: u8) -> State
     ensures { result ≡ isa_on byte }
 {
     match byte {
@@ -82,7 +82,7 @@ fn isa_on(byte: u8) -> State
 }
 
 /// After the letter of an instruction set.
-fn mask_on(isa: Isa, byte: u8) -> State
+pub(crate) fn mask_on(isa: Isa, byte: u8) -> State
     ensures { result ≡ mask_on isa byte }
 {
     match byte {
@@ -93,7 +93,7 @@ fn mask_on(isa: Isa, byte: u8) -> State
 }
 
 /// After the mask letter.
-fn len_on(isa: Isa, masked: bool, byte: u8) -> State
+pub(crate) fn len_on(isa: Isa, masked: bool, byte: u8) -> State
     ensures { result ≡ len_on isa masked byte }
 {
     match byte {
@@ -144,7 +144,7 @@ fn placed_len(params: &[Param]) -> usize
 }
 
 /// After the `_` that ends the parameters.
-fn underscore_on(front: Length, params: &[Param], at: u32) -> State
+pub(crate) fn underscore_on(front: Length, params: &[Param], at: u32) -> State
     requires { length params.now ≤ 64 }
     ensures { result ≡ underscore_on front params.now at }
 {
@@ -295,7 +295,7 @@ pub(crate) fn end_on(state: State) -> Result<Found, NameFault>
 }
 
 /// Whether the byte is a letter, a digit or an underscore.
-fn is_name_byte(byte: u8) -> bool
+pub(crate) fn is_name_byte(byte: u8) -> bool
     ensures { result ≡ is_name_byte byte }
 {
     byte.is_ascii_alphanumeric() || byte == b'_'

@@ -1,7 +1,6 @@
 -- No public contract's meaning rests on this: which state of the code a feed of some bytes has, and what that state answers. Of
 -- `Stands` a caller needs only that `NameFeed::new` stands for no bytes and that `NameFeed::feed` adds its piece.
 use Rattle.std.specs.Prelude.{◌≡◌, ℕ, List, [], take, drop, Result, Ok, Err, IsOkAnd, IsErrAnd}
-use Rattle.std.specs.List.{fold}
 use Rattle.vk_kinds.specs.declared.kinds.Param.{Param}
 use Rattle.vk_names.specs.declared.rules.NameFault.{NameFault}
 use Rattle.vk_names.specs.declared.names.ReadName.{ReadName}
@@ -13,11 +12,11 @@ use Rattle.vk_names.specs.declared.feed.Progress.{Progress}
 use Rattle.vk_names.specs.declared.feed.Progress.TheVariants.{More}
 use Rattle.vk_names.specs.Spelling.{Name, name_in}
 use Rattle.vk_names.specs.Pieces.{IsDoneAnd, IsFaultAnd}
-use Rattle.vk_names.specs.Inner.Steps.{state_on}
+use Rattle.vk_names.specs.Inner.Many.{from}
 
 -- the state and the parameters after these bytes, from the first one on
 abbrev pub after : List ℕ → State × List Param
-after bytes = fold (λ so_far b. state_on so_far.0 so_far.1 b) (Mark 0, []) bytes
+after bytes = from (Mark 0) [] bytes
 
 -- The feed stands for these bytes: it is what they make of a new one. `NameFeed::new` gives one that stands for no bytes,
 -- and `NameFeed::feed` one that stands for the bytes before and then the piece.
