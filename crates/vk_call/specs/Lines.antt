@@ -2,18 +2,12 @@
 use Rattle.std.specs.Prelude.{ℕ, ◌+◌, List, [], ◌∷◌, ◌++◌, codes, map}
 use Rattle.std.specs.Fmt.{decimal, signed_decimal}
 use Rattle.std.specs.List.{range_with_len}
-use Rattle.vk_types.specs.declared.types.Stop.{Stop}
-use Rattle.vk_types.specs.declared.types.Stop.TheVariants.{Divide, Bounds, Turns}
 use Rattle.vk_numbers.specs.Values.{Value, got, halts}
+use Rattle.vk_ends.specs.Ends.{stop_word}
 use Rattle.vk_simple.specs.Form.{FormTree}
 use Rattle.vk_simple.specs.Parameters.{heads_of, returned}
 use Rattle.vk_simple.specs.Variant.{lanes_of}
 use Rattle.vk_call.specs.Arguments.{lane_arguments}
-
-abbrev pub stop_word : Stop → List ℕ
-stop_word Divide = codes "divide"
-stop_word Bounds = codes "bounds"
-stop_word Turns = codes "turns"
 
 -- a number, or the stop that came in its place
 abbrev pub value_text : Value → List ℕ

@@ -7,5 +7,4 @@ pub mod lines;
 pub mod variant;
 
 pub use arguments::ArgumentFail;
-pub use lines::word_of_stop;
 pub use variant::call;

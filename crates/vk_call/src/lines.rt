@@ -1,13 +1,13 @@
-// The lines of the lanes, and the words of stops.
+// The lines of the lanes.
 
 ghost use Rattle.std.specs.Prelude.{◌≡◌, map, string_bytes, IfOk};
 ghost use Rattle.std.specs.List.{AllByRecursion, flat_map};
 ghost use Rattle.vk_types.specs.Numbers.{IsCanonical, number_of};
 ghost use Rattle.vk_numbers.specs.Values.{got};
-ghost use Rattle.vk_call.specs.Lines.{line, lines_from, stop_word};
+ghost use Rattle.vk_call.specs.Lines.{line, lines_from};
 
 use std::alloc::{AllocError, Global};
-use vk_types::{Stop, Ty, Word, number};
+use vk_types::{Ty, Word, number};
 
 /// The line `lane I: N` of each lane, from the words of the lanes.
 pub fn lines_of(alloc: Global, ty: Ty, words: &[Word]) -> Result<Vec<String>, AllocError>
@@ -28,15 +28,4 @@ fn line_of(alloc: Global, lane: usize, ty: Ty, word: Word) -> Result<String, All
 {
     let value = number(ty, word);
     format!(in alloc; "lane {lane}: {value}\n")
-}
-
-/// The word of a stop.
-pub fn word_of_stop(stop: Stop) -> &'static str
-    ensures { result.now ≡ stop_word stop }
-{
-    match stop {
-        Stop::Divide => "divide",
-        Stop::Bounds => "bounds",
-        Stop::Turns => "turns",
-    }
 }

@@ -1,4 +1,4 @@
 mod NameLines
 mod Described
-mod Lined
+pub mod Lined
 mod Told

@@ -1,2 +1,3 @@
-mod Lined
+pub mod Lined
 mod Readings
+mod Told

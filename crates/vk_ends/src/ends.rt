@@ -163,7 +163,7 @@ impl End {
     }
 }
 
-/// The line of want of memory, which takes none.
+// The line of want of memory, which takes none.
 pub const NO_MEMORY: &str = "vfabi: no memory\n";
 
 // The file of this number, and no text where there is none.

@@ -9,7 +9,7 @@ pub mod labels;
 pub mod printing;
 pub mod reporting;
 
-pub use ends::{CallFault, CallRule, End, NO_MEMORY, Refusal, WordFault, WordRule};
+pub use ends::{CallFault, CallRule, End, Refusal, WordFault, WordRule};
 pub use input::{IMAGE_LIMIT, OBJECT_LIMIT, UNIT_LIMIT, read_input};
 pub use printing::print;
-pub use reporting::report;
+pub use reporting::{report, report_memory};

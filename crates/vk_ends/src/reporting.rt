@@ -1,6 +1,6 @@
 // The line of an end on standard error.
 
-ghost use Rattle.std.specs.Prelude.{◌≡◌, ◌⊎◌, map};
+ghost use Rattle.std.specs.Prelude.{◌≡◌, ◌⊎◌, ℕ, List, map};
 ghost use Rattle.vk_ends.specs.Reports.{Reports, told_end};
 
 use crate::ends::{End, NO_MEMORY};
@@ -20,13 +20,19 @@ pub fn report<E: Sink>(alloc: Global, end: End, files: &[&str], err: &mut E) -> 
     }
     let text = match end.message(alloc, files) {
         Ok(text) => text,
-        Err(AllocError) => {
-            let _ = err.put(NO_MEMORY.as_bytes());
-            return End::Memory;
-        }
+        Err(AllocError) => return report_memory(err),
     };
     let put = err.put(text.as_bytes());
     told(end, put)
+}
+
+/// Puts the line of want of memory, which takes none to make, and tells that end.
+pub fn report_memory<E: Sink>(err: &mut E) -> End
+    ensures end { result ≡ End.Memory }
+    ensures reports { (files : List (List ℕ)) → Reports files result (E.state err.old) (E.state err.new) }
+{
+    let _ = err.put(NO_MEMORY.as_bytes());
+    End::Memory
 }
 
 // The end that is told where its line was put so.

@@ -7,8 +7,8 @@ mod tests;
 use std::env;
 use std::process::ExitCode;
 use vk_cli::vfabi;
-use vk_ends::{End, NO_MEMORY};
-use vk_io::{DirStore, Memory, Sink, StreamSink, Words};
+use vk_ends::report_memory;
+use vk_io::{DirStore, Memory, StreamSink, Words};
 
 fn main(rt: HostRuntime) -> ExitCode {
     let alloc = rt.alloc();
@@ -19,10 +19,7 @@ fn main(rt: HostRuntime) -> ExitCode {
             let mut store = DirStore::new(alloc, rt);
             vfabi(alloc, &words, &mut store, &mut out, &mut err)
         }
-        Err(Memory) => {
-            let _ = err.put(NO_MEMORY.as_bytes());
-            End::Memory
-        }
+        Err(Memory) => report_memory(&mut err),
     };
     ExitCode::from(end.status())
 }
