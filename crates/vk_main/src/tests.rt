@@ -1,5 +1,6 @@
 //! Whole calls, with what they write and how they end.
 mod calls;
+mod faults;
 mod name_files;
 mod outside;
 mod single_words;
@@ -10,6 +11,7 @@ mod wrong_words;
 
 use super::*;
 use calls::REFUSED;
+use faults::FAULTS;
 use name_files::NAME_FILES;
 use outside::{BYTES, INTS, LONGS, SHORTS};
 use single_words::WORDS;
@@ -214,25 +216,28 @@ fn words_stand_one_by_one(rt: HostRuntime) -> Result<(), Fail> {
 
 #[test]
 fn faults_are_told(rt: HostRuntime) -> Result<(), Fail> {
-    let words = split(rt.alloc(), "lanes --isa b f.c _ZGVbN4v_f 1,2,3,4")?;
-    for (failing, lines) in [
-        (1, ""),
-        (2, "lane 0: 1\n"),
-        (3, "lane 0: 1\nlane 1: 2\n"),
-        (4, "lane 0: 1\nlane 1: 2\nlane 2: 3\n"),
-    ] {
-        let outcome = call(rt.alloc(), SELF.as_bytes(), &words, (&[], &[failing], &[]))?;
-        assert_eq!(rt; outcome.status, 5, "status at {failing}");
-        assert!(rt; outcome.out.bytes() == lines.as_bytes(), "out at {failing}");
+    for (file, text, (store, sink), out, err, status) in &FAULTS {
+        let words = split(rt.alloc(), text)?;
+        let outcome = call(
+            rt.alloc(),
+            file.as_bytes(),
+            &words,
+            (&[*store], &[*sink], &[]),
+        )?;
+        assert_eq!(rt;
+            outcome.status,
+            *status,
+            "status of {text} at {store} and {sink}"
+        );
         assert!(rt;
-            outcome.err.bytes() == b"vfabi: write fault\n".as_slice(),
-            "err at {failing}"
+            outcome.out.bytes() == out.as_bytes(),
+            "out of {text} at {store} and {sink}"
+        );
+        assert!(rt;
+            outcome.err.bytes() == err.as_bytes(),
+            "err of {text} at {store} and {sink}"
         );
     }
-    let unread = call(rt.alloc(), SELF.as_bytes(), &words, (&[1], &[], &[]))?;
-    assert_eq!(rt; unread.status, 4);
-    assert!(rt; unread.out.bytes().is_empty());
-    assert!(rt; unread.err.bytes() == b"vfabi: read fault: f.c\n".as_slice());
     Ok(())
 }
 
