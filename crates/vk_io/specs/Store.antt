@@ -1,15 +1,16 @@
 -- What a store holds, and what its calls do to it. A file is the list of its bytes, and an absent one is None.
-use Rattle.std.specs.Prelude.{◌≡◌, ◌≢◌, ℕ, ◌-◌, ◌<◌, ◌≤◌, ◌⊎◌, Bool, List, [], ◌∷◌, ◌++◌, length, take, drop, Option, None, Some, Result, IsErr, IfOk, MatchResult}
+use Rattle.std.specs.Prelude.{◌≡◌, ◌≢◌, ℕ, ◌-◌, ◌<◌, ◌≤◌, ◌⊎◌, Bool, List, [], ◌∷◌, ◌++◌, length, take, drop, Option, None, Some, Result, IsErr, IsTrue, IfOk, MatchResult}
 use Rattle.vk_io.specs.Counts.{CountsOf, SameCounts}
 use Rattle.vk_io.specs.declared.outside.Outside.{Outside}
 
--- what a store holds: whether it tells its files, the bytes of each name's file where it does, and for each name how often
--- reading and writing failed
+-- what a store holds: whether it tells its files, the bytes of each name's file where it does, for each name how often
+-- reading and writing failed, and whether it is sound: reading fails only where a file is absent
 pub record StoreState : Type 0 where
   pub tells : Bool
   pub file : List ℕ → Option (List ℕ)
   pub reads : List ℕ → ℕ
   pub writes : List ℕ → ℕ
+  pub is_sound : Bool
 
 -- no file changed
 abbrev pub SameFiles : (List ℕ → Option (List ℕ)) → (List ℕ → Option (List ℕ)) → Type 0
@@ -19,16 +20,24 @@ SameFiles old new = (q : List ℕ) → new q ≡ old q
 abbrev pub OtherFilesStay : List ℕ → (List ℕ → Option (List ℕ)) → (List ℕ → Option (List ℕ)) → Type 0
 OtherFilesStay name old new = (q : List ℕ) → q ≢ name → new q ≡ old q
 
--- what stays where these names are read: all but their read counts, which do not fall
+-- no count of a name with a file changed
+abbrev pub PresentStay : StoreState → StoreState → Type 0
+PresentStay before now = (q : List ℕ) → before.file q ≢ None → now.reads q ≡ before.reads q
+
+-- what stays where these names are read: all but their read counts, which do not fall, and which rise in a sound store only
+-- where there is no file
 pub record Reads (names : List (List ℕ)) (before now : StoreState) : Type 0 where
   pub tells : now.tells ≡ before.tells
+  pub is_sound : now.is_sound ≡ before.is_sound
   pub file : SameFiles before.file now.file
   pub reads : CountsOf names before.reads now.reads
+  pub present : IsTrue before.is_sound → PresentStay before now
   pub writes : SameCounts before.writes now.writes
 
 -- what stays where this name is written: all but its file and its write count, which does not fall
 pub record Writes (name : List ℕ) (before now : StoreState) : Type 0 where
   pub tells : now.tells ≡ before.tells
+  pub is_sound : now.is_sound ≡ before.is_sound
   pub file : OtherFilesStay name before.file now.file
   pub reads : SameCounts before.reads now.reads
   pub writes : CountsOf (name ∷ []) before.writes now.writes

@@ -130,7 +130,7 @@ fn read_at<R: Files>(
 }
 
 impl<R: Files + Drop> Store for DirStore<R> {
-    ghost state = { λ store. record { tells = false; file = λ _. None; reads = count_of store.reads; writes = count_of store.writes } };
+    ghost state = { λ store. record { tells = false; file = λ _. None; reads = count_of store.reads; writes = count_of store.writes; is_sound = false } };
 
     fn fill(&mut self, name: &str, at: u64, into: &mut [u8]) -> Result<usize, Outside> {
         self.make_places(name)?;

@@ -9,9 +9,11 @@ use crate::outside::Outside;
 ///
 /// For each name a store counts the faults of reading and those of writing. A call answers
 /// `Failed` only where such a count of its name rose, and `Memory` for want of memory. No count
-/// falls, and a count of 2^64 - 1 stays there.
+/// falls, and a count of 2^64 - 1 stays there. In a sound store no read count rises of a name that
+/// has a file.
 pub trait Store {
-    /// Whether the store tells its files, the files where it does, and the counts of faults.
+    /// Whether the store tells its files, the files where it does, the counts of faults, and
+    /// whether it is sound.
     ghost state: { Self → StoreState };
 
     /// Reads bytes of the file from the offset `at` on into the front of `into`, and answers how
