@@ -38,21 +38,16 @@ fn type_of(pair: &[u8]) -> CType {
     }
 }
 
-/// The types of a row.
+/// The types of a row: the result's, then each parameter's.
 fn head_of(types: &[u8]) -> Head {
     let mut params = Types::new();
-    let mut rest = types;
     let mut result = CType::Void;
-    let mut first = true;
-    while let [a, b, more @ ..] = rest {
-        let next = type_of(&[*a, *b]);
-        if first {
-            result = next;
-            first = false;
+    for (place, pair) in types.chunks(2).enumerate() {
+        if place == 0 {
+            result = type_of(pair);
         } else {
-            let _fits = params.try_push(next);
+            let _fits = params.try_push(type_of(pair));
         }
-        rest = more;
     }
     Head { result, params }
 }
