@@ -1,5 +1,6 @@
 -- What the steps of the command say of its file.
-use Rattle.std.proofs.Common.{◌≡◌, ◌∙◌, ℕ, ◌<◌, ◌≤◌, List, length, Option, None, Some, refl, sym, ap, subst}
+use Rattle.std.proofs.Common.{◌≡◌, ◌∙◌, ℕ, ◌<◌, ◌≤◌, List, [], ◌∷◌, ◌++◌, length, map, Option, None, Some, refl, sym, ap, subst}
+use Rattle.std.specs.List.{concat, flat_map}
 use Rattle.vk_types.specs.declared.types.Stop.{Stop}
 use Rattle.vk_io.specs.Whole.{IsTooLong}
 use Rattle.vk_ends.specs.Inputs.{IsUnread}
@@ -12,6 +13,11 @@ use Rattle.vk_simple.specs.Form.{FormTree}
 use Rattle.vk_call.specs.Lines.{lane_lines}
 use Rattle.vk_cmd_lanes.specs.Lanes.{AllowsLanes, Asked, IsCall, IsUncalled, PrintsLanes, RefusesLanes}
 use Rattle.vk_cmd_lanes.specs.Units.{IsFormed}
+
+-- a text for each
+pub flat_map_is : {A : Type 0} (f : A → List ℕ) (xs : List A) → flat_map f xs ≡ concat (map f xs)
+flat_map_is f [] = refl
+flat_map_is f (x ∷ xs) = ap (λ t. f x ++ t) (flat_map_is f xs)
 
 pub too_long : (r : Asked) (contents : Option (List ℕ)) → IsTooLong contents 1048576 → RefusesLanes r contents (Size 0)
 too_long r contents h = subst (λ (o : Option (List ℕ)). RefusesLanes r o (Size 0)) (sym h.1) (refl, h.2)

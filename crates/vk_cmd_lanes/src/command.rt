@@ -100,7 +100,7 @@ fn call_variant(alloc: Global, form: &Form, call: Call) -> Result<Lines, NoCall>
 }
 
 // Copies of these texts.
-fn owned(alloc: Global, texts: &[&str]) -> Result<Vec<String>, NoCall>
+fn owned(alloc: Global, texts: &[&str]) -> Result<Vec<String>, Memory>
     ensures { IfOk result (λ copies. map string_bytes copies.items ≡ map (λ text. text.now) texts.now) }
 {
     let mut copies = Vec::new(alloc);
