@@ -139,6 +139,7 @@ fn keeps_the_lines_of_clauses_and_names(rt: HostRuntime) -> Result<(), Fail> {
     let front = front_of(&rt, alloc, text)?;
     let names = &front.tokens.names;
     let syms = &front.syms;
+    assert_eq!(rt; syms.lines.len(), 1);
     assert_eq!(rt; syms.outside.len(), 1);
     let directive = read_directive(alloc, names, syms, syms.outside[0], 1).map_err(
         |_| "no memory",

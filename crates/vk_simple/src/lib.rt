@@ -6,6 +6,4 @@ pub mod emitter;
 pub mod form;
 pub mod machine;
 pub mod results;
-#[cfg(test)]
-mod tests;
 pub mod variant;

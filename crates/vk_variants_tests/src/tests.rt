@@ -92,7 +92,8 @@ fn gives(rt: &impl Abort, alloc: Global, row: &Row) -> Result<bool, Memory> {
     let head = head_of(types);
     let mut list = NameList::new(alloc);
     if let Ok(name) = read_name(names) {
-        let scalar = &names[name.scalar_at as usize..name.used as usize];
+        let (text, _) = names.split_at(name.used as usize);
+        let (_, scalar) = text.split_at(name.scalar_at as usize);
         let signature = Signature {
             params: name.head.params,
             branch,
