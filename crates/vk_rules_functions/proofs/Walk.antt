@@ -1,6 +1,6 @@
 -- Functions one item after another.
 use Rattle.std.proofs.Common.{◌≡◌, ℕ, ◌+◌, ◌<◌, List, [], ◌∷◌, ◌++◌, length, map, take, get_or, Option, refl, sym, ap, subst, ◌∙◌}
-use Rattle.std.proofs.lemmas.List.{append-nil, append_assoc, take_more}
+use Rattle.std.proofs.lemmas.List.{append-nil, append_assoc}
 use Rattle.vk_ast.specs.declared.items.Item.{Item}
 use Rattle.vk_ast.specs.Units.{ItemTree, item_of}
 use Rattle.vk_rules_book.specs.declared.faults.Fault.{Fault}
@@ -9,6 +9,7 @@ use Rattle.vk_rules_book.specs.Rules.{Subject}
 use Rattle.vk_rules_book.proofs.Noting.{found_append, found_none}
 use Rattle.vk_rules_names.specs.declared.known.Place.{Place}
 use Rattle.vk_rules_names.specs.Seen.{HasFirst, item_at}
+use Rattle.vk_rules_names.proofs.Tables.{grown}
 use Rattle.vk_rules_functions.specs.Parts.{Declares, function_part, function_parts}
 
 -- nothing is noted at an item without a function
@@ -18,13 +19,6 @@ nothing_noted unit texts before x y old is none =
     sym (ap (λ z. found unit old (function_part texts before (item_of z))) is ∙ ap (found unit old) none ∙ found_none unit old)
 
 -- ---- one item more
-
-map_push : (xs : List Item) (x : Item) → map item_of (xs ++ x ∷ []) ≡ map item_of xs ++ item_of x ∷ []
-map_push [] x = refl
-map_push (y ∷ xs) x = ap (λ ys. item_of y ∷ ys) (map_push xs x)
-
-grown : (items : List Item) (k : ℕ) (x : Item) → k < length items → x ≡ get_or items k x → map item_of (take (k + 1) items) ≡ map item_of (take k items) ++ item_of x ∷ []
-grown items k x lt is = ap (map item_of) (take_more items k x lt ∙ ap (λ y. take k items ++ y ∷ []) (sym is)) ∙ map_push (take k items) x
 
 parts_push : (texts : List (List ℕ)) (before xs : List ItemTree) (x : ItemTree)
     → function_parts texts before (xs ++ x ∷ []) ≡ function_parts texts before xs ++ function_part texts (before ++ xs) x

@@ -61,12 +61,7 @@ fn around_body(place: &Place, f: &Function) -> Around
 }
 
 /// Judges the parameters and the body of an item that is a function, at the place behind it.
-pub fn judge_item(
-    alloc: Global,
-    place: &Place,
-    item: &Item,
-    note: &mut Note,
-) -> Result<(), Memory>
+pub fn judge_item(alloc: Global, place: &Place, item: &Item, note: &mut Note) -> Result<(), Memory>
     ensures { (before : List ItemTree) → Declares place.now (before ++ item_of item.now ∷ []) →
         OnOk result (note.new.first ≡ found (unit_of place.now) note.old.first (function_part place.now.names.now before (item_of item.now))) }
 {

@@ -1,2 +1,2 @@
 mod Bindings
-mod Tables
+pub mod Tables

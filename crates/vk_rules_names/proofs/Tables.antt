@@ -58,7 +58,8 @@ map_length : (xs : List Item) → length (map item_of xs) ≡ length xs
 map_length [] = refl
 map_length (x ∷ xs) = ap suc (map_length xs)
 
-grown : (items : List Item) (k : ℕ) (x : Item) → k < length items → x ≡ get_or items k x → map item_of (take (k + 1) items) ≡ map item_of (take k items) ++ item_of x ∷ []
+-- the items up to one more
+pub grown : (items : List Item) (k : ℕ) (x : Item) → k < length items → x ≡ get_or items k x → map item_of (take (k + 1) items) ≡ map item_of (take k items) ++ item_of x ∷ []
 grown items k x lt is = ap (map item_of) (take_more items k x lt ∙ ap (λ y. take k items ++ y ∷ []) (sym is)) ∙ map_push (take k items) x
 
 -- the numbers of one item more
