@@ -1,1 +1,2 @@
+mod Constant
 mod Values

@@ -1,11 +1,12 @@
 // What the definitions of types and values mean, as laws.
 
-ghost use Rattle.std.specs.Prelude.{◌≡◌, ◌≢◌, true, ℕ, ℤ, pos};
+ghost use Rattle.std.specs.Prelude.{◌≡◌, ◌≢◌, true, ℕ, ℤ, pos, Some};
 ghost use Rattle.vk_types.specs.declared.types.Ty.{Ty};
 ghost use Rattle.vk_types.specs.Numbers.{IsInRange};
 ghost use Rattle.vk_ast.specs.declared.names.NameId.{NameId};
 ghost use Rattle.vk_ast.specs.declared.expressions.BinOp.TheVariants.{LogAnd, LogOr};
 ghost use Rattle.vk_ast.specs.Tree.{Tree, int, binary, choice};
+ghost use Rattle.vk_numbers.specs.Constants.{Computed, computed, constant_of};
 ghost use Rattle.vk_numbers.specs.Values.{Value, got, halts};
 ghost use Rattle.vk_mean.specs.Types.{type_of};
 ghost use Rattle.vk_mean.specs.Expressions.{IsNumber, IsOfType, is_total, value_of};
@@ -25,6 +26,13 @@ pub fn total()
 pub fn literals()
     ensures { (types : NameId → Ty) (env : NameId → ℤ) (l k : ℕ) (t : Ty) (value : ℕ) → IsInRange t (pos value) →
         value_of types env (int l k t value) ≡ got (pos value) }
+{}
+
+/// What the rules of units compute of a constant (C17 6.6) is its type and its value, whatever names stand for.
+pub fn constants()
+    ensures ty { (types : NameId → Ty) (e : Tree) (c : Computed) → computed e ≡ Some c → c.ty ≡ type_of types e }
+    ensures value { (types : NameId → Ty) (env : NameId → ℤ) (e : Tree) (c : Computed) → computed e ≡ Some c → c.value ≡ value_of types env e }
+    ensures number { (types : NameId → Ty) (env : NameId → ℤ) (e : Tree) (z : ℤ) → constant_of e ≡ Some z → value_of types env e ≡ got z }
 {}
 
 /// `&&` and `||` evaluate their second operand only where the first does not decide (C17 6.5.13, 6.5.14), and `?:` one of its

@@ -1,4 +1,5 @@
 pub mod Constants
+pub mod Inner
 pub mod Laws
 pub mod Operators
 pub mod Types

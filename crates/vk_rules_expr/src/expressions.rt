@@ -15,10 +15,11 @@ ghost use Rattle.vk_rules_names.specs.Seen.{meaning_seen, scope_of, unit_in};
 
 use crate::typing::{
     binary_typing, is_argument, is_typed, left_role, lets_written, may_be_assigned,
-    may_have_address, number_type, right_role, takes, unary_type, with_address,
+    may_have_address, number_type, right_role, takes, with_address,
 };
 use vk_ast::{Expr, ExprKind, NameId, UnOp};
 use vk_kinds::CType;
+use vk_numbers::unary_type;
 use vk_rules_book::{Around, Role, Typing};
 use vk_rules_names::{Known, Note, Scopes, fault_at, fault_with};
 use vk_types::{Ty, common};

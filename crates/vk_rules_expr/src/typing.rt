@@ -1,14 +1,14 @@
 // Of what type an expression is, from the types of its parts.
 
 ghost use Rattle.std.specs.Prelude.{◌≡◌};
-ghost use Rattle.vk_numbers.specs.Types.{unary_type, binary_type};
 ghost use Rattle.vk_rules_book.specs.Expressions.{lets_written, may_be_assigned, may_have_address};
 ghost use Rattle.vk_rules_book.specs.Typings.{binary_typing, is_argument, is_number, is_pointer, is_pointer_to, is_plus, is_sum, is_typed, left_role, moves_left, moves_right, number_type, right_role, takes, with_address, same_type};
 
-use vk_ast::{BinOp, UnOp};
+use vk_ast::BinOp;
 use vk_kinds::CType;
+use vk_numbers::binary_type;
 use vk_rules_book::{Role, Typing};
-use vk_types::{Ty, common, promote};
+use vk_types::Ty;
 
 /// The type of the number that an expression gives.
 pub fn number_type(t: Typing) -> Option<Ty>
@@ -164,32 +164,6 @@ pub fn right_role(op: BinOp, left: Typing, right: Typing) -> Role
         Role::Added
     } else {
         Role::Value
-    }
-}
-
-fn binary_type(op: BinOp, s: Ty, t: Ty) -> Ty
-    ensures { result ≡ binary_type op s t }
-{
-    match op {
-        BinOp::Add
-        | BinOp::Sub
-        | BinOp::Mul
-        | BinOp::Div
-        | BinOp::Rem
-        | BinOp::And
-        | BinOp::Or
-        | BinOp::Xor => common(s, t),
-        BinOp::Shl | BinOp::Shr => promote(s),
-        _ => Ty::I32,
-    }
-}
-
-pub fn unary_type(op: UnOp, t: Ty) -> Ty
-    ensures { result ≡ unary_type op t }
-{
-    match op {
-        UnOp::Plus | UnOp::Neg | UnOp::Not => promote(t),
-        UnOp::LogNot => Ty::I32,
     }
 }
 

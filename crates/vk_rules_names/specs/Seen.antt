@@ -1,12 +1,13 @@
 -- Scopes and meanings of the code as those of the rules.
 use Rattle.std.specs.Prelude.{◌≡◌, ℕ, cond, List, map, take, slice_get, Option, Some, None}
+use Rattle.std.specs.List.{position_from}
 use Rattle.std.specs.Option.{option_map, option_and_then}
 use Rattle.vk_ast.specs.declared.names.NameId.{NameId}
 use Rattle.vk_ast.specs.declared.items.Item.{Item}
 use Rattle.vk_ast.specs.Units.{item_of, ItemTree}
 use Rattle.vk_rules_book.specs.declared.contexts.Binding.{Binding}
 use Rattle.vk_rules_book.specs.Rules.{Subject}
-use Rattle.vk_rules_book.specs.Scopes.{Scope, Meaning, a_variable, an_object, a_function, printer, types_of, declared_meaning, first_declaration, is_print}
+use Rattle.vk_rules_book.specs.Scopes.{Scope, Meaning, a_variable, an_object, a_function, printer, types_of, declared_meaning, declares, first_declaration, is_print}
 use Rattle.vk_rules_names.specs.declared.known.Known.{Known}
 use Rattle.vk_rules_names.specs.declared.known.Known.TheVariants.{Unknown, Variable, Object, Function, Print}
 use Rattle.vk_rules_names.specs.declared.known.Place.{Place}
@@ -30,6 +31,14 @@ item_at items first id = option_and_then (λ n. option_map item_of (slice_get it
 -- the table has the first declaration of each name among so many of these items
 abbrev pub HasFirst : List Item → List (Option ℕ) → ℕ → Type 0
 HasFirst items first count = (id : NameId) → item_at items first id ≡ first_declaration (map item_of (take count items)) id
+
+-- the number of the first of these items that declares the name
+abbrev pub first_item : List ItemTree → NameId → Option ℕ
+first_item items id = position_from (declares id) 0 items
+
+-- the table has the number of the first declaration of each name among so many of these items
+abbrev pub AreFirst : List Item → List (Option ℕ) → ℕ → Type 0
+AreFirst items first count = (id : NameId) → number_at first id ≡ first_item (map item_of (take count items)) id
 
 -- what names mean at file scope, by such a table
 abbrev pub file_seen : List (List ℕ) → List Item → List (Option ℕ) → NameId → Option Meaning
