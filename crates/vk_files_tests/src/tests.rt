@@ -1,212 +1,208 @@
-use std::alloc::{AllocError, Global};
+use Want::{Fault, Long, Read};
+use std::alloc::Global;
 use std::test::Fail;
 use vk_ends::{End, Refusal};
-use vk_files::{read_inputs, write_file};
-use vk_io::{MemStore, Memory, Outside, Store, read_whole};
+use vk_files::{Inputs, read_inputs, write_file};
+use vk_io::{MemStore, Memory, Outside, Store, WholeFail, read_whole};
 
-// A store of these files, of whose calls that of this number fails, 0 for none.
-fn store_of(alloc: Global, files: &[(&str, &str)], failing: u64) -> Result<MemStore, Memory> {
+// A store of the files a, b, c, d and `old`, of whose calls that of this number fails, 0 for none.
+fn store_of(alloc: Global, failing: u64) -> Result<MemStore, Memory> {
     let mut store = MemStore::new(alloc, &[failing])?;
-    for (name, text) in files {
+    for (name, text) in [
+        ("a", "abc"),
+        ("b", ""),
+        ("c", "cdefg"),
+        ("d", "d"),
+        ("old", "old"),
+    ] {
         store.set(name, text.as_bytes())?;
     }
     Ok(store)
 }
 
-// The contents of the inputs in brackets, or how the command ended.
-fn told(
-    alloc: Global,
-    store: &mut MemStore,
-    files: &[&str],
-    limit: u64,
-) -> Result<String, AllocError> {
-    let mut text = String::new(alloc);
-    match read_inputs(alloc, store, files, limit) {
-        Ok(inputs) => {
-            for bytes in inputs.files() {
-                text.push('[')?;
-                for byte in bytes {
-                    text.push(char::from(*byte))?;
-                }
-                text.push(']')?;
-            }
-        }
-        Err(End::ReadFault(input)) => write!(text, "fault {input}")?,
-        Err(End::Refused(Refusal::Size { input })) => write!(text, "size {input}")?,
-        Err(_) => text.push_str("another end")?,
-    }
-    Ok(text)
+// How inputs are read: with these contents, or up to the one of this number, which fails or is too long.
+#[derive(Clone, Copy)]
+enum Want {
+    Read(&'static [&'static str]),
+    Fault(usize),
+    Long(usize),
 }
 
-static FILES: [(&str, &str); 4] = [("a", "abc"), ("b", ""), ("c", "cdefg"), ("d", "d")];
+fn is_read(read: Result<Inputs, End>, want: &Want) -> bool {
+    match (read, want) {
+        (Ok(inputs), Read(texts)) => are_texts(inputs.files(), texts),
+        (Err(End::ReadFault(input)), Fault(number)) => input == *number,
+        (Err(End::Refused(Refusal::Size { input })), Long(number)) => input == *number,
+        _ => false,
+    }
+}
+
+fn are_texts(files: &[Vec<u8>], texts: &[&str]) -> bool {
+    for (bytes, text) in files.iter().zip(texts) {
+        if bytes.as_slice() != text.as_bytes() {
+            return false;
+        }
+    }
+    files.len() == texts.len()
+}
+
+// The first row that is read otherwise: the names of inputs, their limit, the number of the call that fails, and the contents or
+// the end.
+fn other(alloc: Global, rows: &[(&[&str], u64, u64, Want)]) -> Result<usize, Memory> {
+    for (row, (files, limit, failing, want)) in rows.iter().enumerate() {
+        let mut store = store_of(alloc, *failing)?;
+        if !is_read(read_inputs(alloc, &mut store, files, *limit), want) {
+            return Ok(row);
+        }
+    }
+    Ok(rows.len())
+}
 
 // A file that is not empty takes two calls, the second of which finds its end, and an empty file takes one.
-static FAILING: [(u64, &str); 8] = [
-    (0, "[abc][][cdefg]"),
-    (1, "fault 0"),
-    (2, "fault 0"),
-    (3, "fault 1"),
-    (4, "fault 2"),
-    (5, "fault 2"),
-    (6, "[abc][][cdefg]"),
-    (7, "[abc][][cdefg]"),
+static FAILING: [(&[&str], u64, u64, Want); 13] = [
+    (&["a", "b", "c"], 5, 0, Read(&["abc", "", "cdefg"])),
+    (&["a", "b", "c"], 5, 1, Fault(0)),
+    (&["a", "b", "c"], 5, 2, Fault(0)),
+    (&["a", "b", "c"], 5, 3, Fault(1)),
+    (&["a", "b", "c"], 5, 4, Fault(2)),
+    (&["a", "b", "c"], 5, 5, Fault(2)),
+    (&["a", "b", "c"], 5, 6, Read(&["abc", "", "cdefg"])),
+    // A name that stands twice is read twice.
+    (&["d", "d"], 1, 0, Read(&["d", "d"])),
+    (&["d", "d"], 1, 2, Fault(0)),
+    (&["d", "d"], 1, 3, Fault(1)),
+    (&["d", "d"], 1, 4, Fault(1)),
+    (&["d", "d"], 1, 5, Read(&["d", "d"])),
+    (&[], 0, 1, Read(&[])),
+];
+
+static LIMITS: [(&[&str], u64, u64, Want); 17] = [
+    (&["c"], 6, 0, Read(&["cdefg"])),
+    (&["c"], 5, 0, Read(&["cdefg"])),
+    (&["c"], 4, 0, Long(0)),
+    (&["b"], 0, 0, Read(&[""])),
+    (&["d"], 0, 0, Long(0)),
+    (&["a", "c", "d"], 5, 0, Read(&["abc", "cdefg", "d"])),
+    (&["a", "c", "d"], 4, 0, Long(1)),
+    (&["a", "c", "d"], 3, 0, Long(1)),
+    (&["a", "c", "d"], 2, 0, Long(0)),
+    (&["d", "a", "c"], 4, 0, Long(2)),
+    (&["a", "c"], 4, 2, Fault(0)),
+    (&["a", "c"], 4, 3, Fault(1)),
+    (&["none", "c"], 4, 0, Fault(0)),
+    (&["c", "none"], 4, 0, Long(0)),
+    (&["a", "none", "c"], 4, 0, Fault(1)),
+    (&["a", "c", "none"], 5, 0, Fault(2)),
+    (&["a", "a", "a"], 3, 0, Read(&["abc", "abc", "abc"])),
 ];
 
 #[test]
 fn a_call_that_fails_ends_reading(rt: HostRuntime) -> Result<(), Fail> {
-    for (failing, want) in &FAILING {
-        let mut store = store_of(rt.alloc(), &FILES, *failing)?;
-        let found = told(rt.alloc(), &mut store, &["a", "b", "c"], 5)?;
-        assert_eq!(rt; found.as_str(), *want, "call {failing}");
-    }
+    assert_eq!(rt; other(rt.alloc(), &FAILING)?, FAILING.len());
     Ok(())
 }
-
-// Names of inputs with a blank between them, a limit, and what is read.
-static LIMITS: [(&str, u64, &str); 18] = [
-    ("c", 6, "[cdefg]"),
-    ("c", 5, "[cdefg]"),
-    ("c", 4, "size 0"),
-    ("b", 0, "[]"),
-    ("d", 0, "size 0"),
-    ("a c d", 5, "[abc][cdefg][d]"),
-    ("a c d", 4, "size 1"),
-    ("a c d", 3, "size 1"),
-    ("a c d", 2, "size 0"),
-    ("c a d", 4, "size 0"),
-    ("d a c", 4, "size 2"),
-    ("none c", 4, "fault 0"),
-    ("c none", 4, "size 0"),
-    ("a none c", 4, "fault 1"),
-    ("a c none", 5, "fault 2"),
-    ("d a d", 3, "[d][abc][d]"),
-    ("a a a a", 3, "[abc][abc][abc][abc]"),
-    ("b b", 3, "[][]"),
-];
 
 #[test]
 fn the_first_that_is_not_read_is_told(rt: HostRuntime) -> Result<(), Fail> {
-    for (names, limit, want) in &LIMITS {
-        let mut store = store_of(rt.alloc(), &FILES, 0)?;
-        let mut files = Vec::new(rt.alloc());
-        for name in names.split(' ') {
-            files.push(name)?;
-        }
-        let found = told(rt.alloc(), &mut store, &files, *limit)?;
-        assert_eq!(rt; found.as_str(), *want, "{names} {limit}");
-    }
-    let mut store = store_of(rt.alloc(), &FILES, 1)?;
-    assert_eq!(rt; told(rt.alloc(), &mut store, &[], 0)?.as_str(), "");
+    assert_eq!(rt; other(rt.alloc(), &LIMITS)?, LIMITS.len());
     Ok(())
 }
 
-#[test]
-fn a_name_that_stands_twice_is_read_twice(rt: HostRuntime) -> Result<(), Fail> {
-    for (failing, want) in [
-        (2, "fault 0"),
-        (3, "fault 1"),
-        (4, "fault 1"),
-        (5, "[d][d]"),
-    ] {
-        let mut store = store_of(rt.alloc(), &FILES, failing)?;
-        let found = told(rt.alloc(), &mut store, &["d", "d"], 1)?;
-        assert_eq!(rt; found.as_str(), want, "call {failing}");
-    }
-    Ok(())
-}
+// Names of 64 files.
+static MANY: [&str; 64] = [
+    "f00", "f01", "f02", "f03", "f04", "f05", "f06", "f07", "f08", "f09", "f10", "f11", "f12",
+    "f13", "f14", "f15", "f16", "f17", "f18", "f19", "f20", "f21", "f22", "f23", "f24", "f25",
+    "f26", "f27", "f28", "f29", "f30", "f31", "f32", "f33", "f34", "f35", "f36", "f37", "f38",
+    "f39", "f40", "f41", "f42", "f43", "f44", "f45", "f46", "f47", "f48", "f49", "f50", "f51",
+    "f52", "f53", "f54", "f55", "f56", "f57", "f58", "f59", "f60", "f61", "f62", "f63",
+];
 
-// Of 64 files each holds its name, and the one of this number one byte more.
-fn many(alloc: Global, longer: usize, failing: u64) -> Result<String, Memory> {
+// A store of these files: each holds its name, and that of this number one byte more.
+fn many(alloc: Global, longer: usize, failing: u64) -> Result<MemStore, Memory> {
     let mut store = MemStore::new(alloc, &[failing])?;
-    let mut names = Vec::new(alloc);
-    for number in 0..64usize {
-        let name = format!(in alloc; "f{:02}", number)?;
-        let text = format!(in alloc; "{name}{}", if number == longer { "!" } else { "" })?;
-        store.set(&name, text.as_bytes())?;
-        names.push(name)?;
+    for name in MANY {
+        store.set(name, name.as_bytes())?;
     }
-    let mut files = Vec::new(alloc);
-    for name in &names {
-        files.push(name.as_str())?;
+    if longer < MANY.len() {
+        store.set(MANY[longer], b"long")?;
     }
-    Ok(told(alloc, &mut store, &files, 3)?)
+    Ok(store)
 }
 
 #[test]
 fn sixty_four_files_are_read_in_order(rt: HostRuntime) -> Result<(), Fail> {
-    let mut want = String::new(rt.alloc());
-    for number in 0..64usize {
-        write!(want, "[f{:02}]", number)?;
+    for (longer, failing, want) in [
+        (64, 0, Read(&MANY)),
+        (63, 0, Long(63)),
+        (40, 0, Long(40)),
+        (63, 126, Fault(62)),
+        (64, 127, Fault(63)),
+        (64, 128, Fault(63)),
+        (64, 129, Read(&MANY)),
+    ] {
+        let mut store = many(rt.alloc(), longer, failing)?;
+        let read = read_inputs(rt.alloc(), &mut store, &MANY, 3);
+        assert!(rt; is_read(read, &want), "{longer} {failing}");
     }
-    assert_eq!(rt; many(rt.alloc(), 64, 0)?, want);
-    assert_eq!(rt; many(rt.alloc(), 63, 0)?.as_str(), "size 63");
-    assert_eq!(rt; many(rt.alloc(), 40, 0)?.as_str(), "size 40");
-    assert_eq!(rt; many(rt.alloc(), 63, 126)?.as_str(), "fault 62");
-    assert_eq!(rt; many(rt.alloc(), 64, 127)?.as_str(), "fault 63");
-    assert_eq!(rt; many(rt.alloc(), 64, 128)?.as_str(), "fault 63");
-    assert_eq!(rt; many(rt.alloc(), 64, 129)?, want);
     Ok(())
 }
 
-// The text of a file, or that it is absent.
-fn text_of(alloc: Global, store: &mut MemStore, name: &str) -> Result<String, AllocError> {
-    told(alloc, store, &[name], 100)
+// Whether the file of a name holds this text, or is absent.
+fn is_text(alloc: Global, store: &mut MemStore, name: &str, want: Option<&str>) -> bool {
+    match read_whole(alloc, store, name, 100) {
+        Ok(bytes) => want.is_some_and(|text| bytes.as_slice() == text.as_bytes()),
+        Err(fail) => fail == WholeFail::Fault && want.is_none(),
+    }
 }
 
 // For the number of the call that fails: how writing ends, and what a file that was absent and one that was not hold then.
-static WRITING: [(u64, End, &str, &str); 6] = [
-    (0, End::Done, "[abcde]", "[abcde]"),
-    (1, End::WriteFault, "fault 0", "[old]"),
-    (2, End::WriteFault, "[]", "[]"),
-    (3, End::WriteFault, "[ab]", "[ab]"),
-    (4, End::WriteFault, "[ab]", "[ab]"),
-    (5, End::WriteFault, "[abcde]", "[abcde]"),
+static WRITING: [(u64, End, Option<&str>, Option<&str>); 6] = [
+    (0, End::Done, Some("abcde"), Some("abcde")),
+    (1, End::WriteFault, None, Some("old")),
+    (2, End::WriteFault, Some(""), Some("")),
+    (3, End::WriteFault, Some("ab"), Some("ab")),
+    (4, End::WriteFault, Some("ab"), Some("ab")),
+    (5, End::WriteFault, Some("abcde"), Some("abcde")),
 ];
+
+static PIECES: [&[u8]; 4] = [b"ab", b"", b"cde", b""];
+
+// Whether a call that fails ends writing so, and leaves this text, and another file as it was.
+fn is_written(
+    alloc: Global,
+    name: &str,
+    failing: u64,
+    want: End,
+    text: Option<&str>,
+) -> Result<bool, Memory> {
+    let mut store = store_of(alloc, failing)?;
+    let end = write_file(&mut store, name, &PIECES);
+    Ok(
+        end == want
+            && is_text(alloc, &mut store, name, text)
+            && is_text(alloc, &mut store, "a", Some("abc")),
+    )
+}
 
 #[test]
 fn a_call_that_fails_ends_writing(rt: HostRuntime) -> Result<(), Fail> {
-    let pieces = [
-        b"ab".as_slice(),
-        b"".as_slice(),
-        b"cde".as_slice(),
-        b"".as_slice(),
-    ];
-    for (failing, want, new, old) in &WRITING {
-        for (name, text) in [("new", *new), ("old", *old)] {
-            let files = [("old", "old"), ("other", "other")];
-            let mut store = store_of(rt.alloc(), &files, *failing)?;
-            let end = write_file(&mut store, name, &pieces);
-            assert_eq!(rt; end, *want, "{name}, call {failing}");
-            let found = text_of(rt.alloc(), &mut store, name)?;
-            assert_eq!(rt; found.as_str(), text, "{name}, call {failing}");
-            let other = text_of(rt.alloc(), &mut store, "other")?;
-            assert_eq!(rt; other.as_str(), "[other]", "{name}, call {failing}");
-        }
+    for (failing, end, new, old) in &WRITING {
+        let written = is_written(rt.alloc(), "new", *failing, *end, *new)?;
+        assert!(rt; written, "a new file, call {failing}");
+        let written = is_written(rt.alloc(), "old", *failing, *end, *old)?;
+        assert!(rt; written, "an old file, call {failing}");
     }
     Ok(())
 }
 
-// One call starts the file and one adds each piece, so that the next call is the next one's.
+// One call starts the file and one adds each piece, so that the next call is the first behind them.
 #[test]
 fn each_piece_takes_one_call(rt: HostRuntime) -> Result<(), Fail> {
-    let pieces = [b"ab".as_slice(), b"".as_slice(), b"cde".as_slice()];
-    for count in 0..4usize {
-        let mut store = store_of(rt.alloc(), &[], count as u64 + 2)?;
-        assert_eq!(rt;
-            write_file(&mut store, "f", &pieces[..count]),
-            End::Done,
-            "{count}"
-        );
-        assert_eq!(rt; store.append("f", b"x"), Err(Outside::Failed), "{count}");
-        assert_eq!(rt; store.append("f", b"!"), Ok(()), "{count}");
+    for count in 0..5usize {
+        let mut store = MemStore::new(rt.alloc(), &[count as u64 + 2])?;
+        let end = write_file(&mut store, "f", &PIECES[..count]);
+        assert_eq!(rt; end, End::Done, "{count}");
+        assert_eq!(rt; store.append("f", b"!"), Err(Outside::Failed), "{count}");
     }
-    Ok(())
-}
-
-#[test]
-fn no_piece_makes_an_empty_file(rt: HostRuntime) -> Result<(), Fail> {
-    let mut store = store_of(rt.alloc(), &[("f", "old")], 0)?;
-    assert_eq!(rt; write_file(&mut store, "f", &[]), End::Done);
-    assert_eq!(rt; read_whole(rt.alloc(), &mut store, "f", 0)?.len(), 0);
     Ok(())
 }
