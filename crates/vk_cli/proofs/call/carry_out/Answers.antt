@@ -18,7 +18,7 @@ pub returns-in-Lanes-clause-holds : goal.returns-in-Lanes-clause-holds
 returns-in-Lanes-clause-holds g c =
     let request = c.in-Lanes.request in
     let Of : List (Bor (List ℕ)) → End → Type 0 = λ texts end. LanesHolds (record { unit = request.unit.now; name = request.name.now; arguments = map (λ text. text.now) texts })
-        (g.S.Store.state c.args.store.now) (g.S.Store.state c.lanes-end.new.store) (g.O.Sink.state c.args.out.now) (g.O.Sink.state c.lanes-end.new.out) end in
+    (g.S.Store.state c.args.store.now) (g.S.Store.state c.lanes-end.new.store) (g.O.Sink.state c.args.out.now) (g.O.Sink.state c.lanes-end.new.out) end in
     subst (λ (q : Request). CommandHolds (command_of q) (g.S.Store.state c.args.store.now) (g.S.Store.state c.lanes-end.new.store) (g.O.Sink.state c.args.out.now)
     (g.O.Sink.state c.lanes-end.new.out) c.report-in-Lanes.result) (sym c.in-Lanes.is)
     (told_holds (lanes (lanes_asked request)) _ _ _ _ c.lanes-end.result c.report-in-Lanes.result c.report-in-Lanes.ensures.end
