@@ -139,11 +139,7 @@ fn shown(alloc: Global, number: Option<i128>) -> Result<String, AllocError> {
 }
 
 // What is told of an expression.
-fn told(
-    alloc: Global,
-    text: &str,
-    tell: impl Fn(&Expr) -> Option<i128>,
-) -> Result<String, Fail> {
+fn told(alloc: Global, text: &str, tell: impl Fn(&Expr) -> Option<i128>) -> Result<String, Fail> {
     let unit = format!(in alloc; "int a = {text};")?;
     if unit.len() > 1000 {
         return Err("too long".into());
