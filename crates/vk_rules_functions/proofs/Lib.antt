@@ -1,2 +1,2 @@
 mod Params
-mod Walk
+pub mod Walk

@@ -1,11 +1,10 @@
 // Constants with their numbers, by hand from C's words; where C has none of its own, signed results wrap.
 
+use crate::verdict::unit_of;
 use std::alloc::{AllocError, Global};
 use std::test::Fail;
 use vk_ast::{Expr, Item};
-use vk_lex::lex;
 use vk_numbers::{constant_of, constant_to};
-use vk_parse::parse;
 
 static NUMBERS: [(&str, &str); 85] = [
     ("7", "7"),
@@ -138,30 +137,44 @@ fn shown(alloc: Global, number: Option<i128>) -> Result<String, AllocError> {
     }
 }
 
-// What is told of an expression.
-fn told(alloc: Global, text: &str, tell: impl Fn(&Expr) -> Option<i128>) -> Result<String, Fail> {
-    let unit = format!(in alloc; "int a = {text};")?;
-    if unit.len() > 1000 {
-        return Err("too long".into());
-    }
-    let tokens = lex(alloc, unit.as_bytes()).map_err(|_| "no tokens")?;
-    let unit = parse(alloc, &tokens).map_err(|_| "no unit")?;
-    match unit.items.as_slice() {
-        [Item::Object(o)] => match &o.init {
-            Some(init) => match init.as_slice() {
-                [e] => Ok(shown(alloc, tell(e))?),
-                _ => Err("no initialiser".into()),
-            },
-            None => Err("no initialiser".into()),
+// The number of an expression, up to a limit where there is one.
+fn number_of(e: &Expr, limit: Option<u32>) -> Option<i128> {
+    match limit {
+        None => constant_of(e),
+        Some(limit) => match constant_to(limit, e) {
+            Some(n) => Some(i128::from(n)),
+            None => None,
         },
-        _ => Err("no object".into()),
+    }
+}
+
+// The expression that an object begins with.
+fn initialiser(items: &[Item]) -> Option<&Expr> {
+    let [Item::Object(o)] = items else {
+        return None;
+    };
+    match &o.init {
+        Some(init) => init.first(),
+        None => None,
+    }
+}
+
+// What is told of an expression.
+fn told(alloc: Global, text: &str, limit: Option<u32>) -> Result<String, Fail> {
+    let text = format!(in alloc; "int a = {text};")?;
+    let Ok(unit) = unit_of(alloc, text.as_bytes()) else {
+        return Ok(format!(in alloc; "no unit")?);
+    };
+    match initialiser(&unit.items) {
+        Some(e) => Ok(shown(alloc, number_of(e, limit))?),
+        None => Ok(format!(in alloc; "no expression")?),
     }
 }
 
 #[test]
 fn numbers(rt: HostRuntime) -> Result<(), Fail> {
     for (text, want) in &NUMBERS {
-        let found = told(rt.alloc(), text, |e| constant_of(e))?;
+        let found = told(rt.alloc(), text, None)?;
         assert!(rt; found.as_str() == *want, "{text}: {found}");
     }
     Ok(())
@@ -170,7 +183,7 @@ fn numbers(rt: HostRuntime) -> Result<(), Fail> {
 #[test]
 fn others(rt: HostRuntime) -> Result<(), Fail> {
     for text in &OTHERS {
-        let found = told(rt.alloc(), text, |e| constant_of(e))?;
+        let found = told(rt.alloc(), text, None)?;
         assert!(rt; found.as_str() == "none", "{text}: {found}");
     }
     Ok(())
@@ -179,7 +192,7 @@ fn others(rt: HostRuntime) -> Result<(), Fail> {
 #[test]
 fn limits(rt: HostRuntime) -> Result<(), Fail> {
     for (text, limit, want) in &LIMITS {
-        let found = told(rt.alloc(), text, |e| constant_to(*limit, e).map(i128::from))?;
+        let found = told(rt.alloc(), text, Some(*limit))?;
         assert!(rt; found.as_str() == *want, "{text}: {found}");
     }
     Ok(())

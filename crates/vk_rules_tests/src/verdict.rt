@@ -12,7 +12,8 @@ use vk_rules_functions::judge_functions;
 use vk_rules_names::Note;
 use vk_unit_rules::UnitFail;
 
-fn unit_of(alloc: Global, bytes: &[u8]) -> Result<Unit, UnitFail> {
+/// The tree of a text.
+pub(crate) fn unit_of(alloc: Global, bytes: &[u8]) -> Result<Unit, UnitFail> {
     if bytes.len() > 100000 {
         return Err(UnitFail::Memory);
     }
