@@ -1,5 +1,5 @@
 -- A run only appends to the log.
-use Rattle.std.proofs.Common.{◌≡◌, ℕ, zero, suc, ◌+◌, ◌-◌, ◌*◌, ◌/◌, ◌%◌, ◌==◌, nat_lt, Bool, true, false, cond, ℤ, List, [], ◌∷◌, ◌++◌, length, Option, Some, None, Result, Ok, Err, refl, ap, sym, ◌∙◌, append_assoc}
+use Rattle.std.proofs.Common.{ℕ, zero, suc, ◌+◌, ◌-◌, ◌*◌, ◌/◌, ◌%◌, ◌==◌, nat_lt, Bool, true, false, cond, ℤ, List, [], ◌∷◌, ◌++◌, length, Option, Some, None, Result, Ok, Err, refl, ap, sym, ◌∙◌, append_assoc}
 use Rattle.std.specs.Option.{option_and_then, option_map}
 use Rattle.std.specs.Prelude.{min, slice_get}
 use Rattle.std.proofs.lemmas.List.{append-nil}
@@ -15,16 +15,12 @@ use Rattle.vk_code.specs.declared.instruction.Operation.{Operation}
 use Rattle.vk_code.specs.declared.instruction.Operation.TheVariants.{Const, Copy, Convert, Binary, Compare, Unary, Lane, Load, Store, PtrAdd, Addr, MaskOf, MaskAnd, MaskOr, MaskBut, Loop, Call, Print, SimdLoop}
 use Rattle.vk_code.specs.Instruction.{block_of, operation_of}
 use Rattle.vk_code.specs.Listing.{Listing}
+use Rattle.vk_runs.specs.Logs.{Grows}
 use Rattle.vk_object.specs.Tables.{EntryLists, Tables}
-use Rattle.vk_object.specs.Memory.{Calls, Cell, Event, Extent, Memory, Prints, cell_of, logged, moved}
+use Rattle.vk_object.specs.Memory.{Calls, Cell, Extent, Memory, Prints, cell_of, logged, moved}
 use Rattle.vk_object.specs.Lane.{View, acts, with_stop, gives_pointer, gives_result, is_live, loads, number_at, stores, ty_at, works}
 use Rattle.vk_object.specs.Images.{code_of}
 use Rattle.vk_object.specs.Machine.{Called, Given, Ran, Simd, Site, Target, World, again, all_calls, all_out_of_turns, any_live, arg_reg, body_args, call_all, call_one, calls_in_turn, calls_target, enters, enters_some, entry_at, first_lane, first_live, guard_holds, iterations, lane_args, lowest_stop, performs, performs_some, run, runs, runs_simd, simd_in, simd_of, site_at, sweep, takes, target_of}
-
--- the second log is the first one and some events more
-pub record Grows (before after : Memory) : Type 0 where
-  pub events : List Event
-  pub appended : after.log ≡ before.log ++ events
 
 same : (m : Memory) → Grows m m
 same m = record { events = []; appended = sym (append-nil m.log) }

@@ -1,0 +1,36 @@
+// The laws of runs.
+
+ghost use Rattle.std.specs.Prelude.{◌≡◌, ℕ, Bool, List, None, Option, false};
+ghost use Rattle.vk_code.specs.declared.instruction.Instr.{Instr};
+ghost use Rattle.vk_code.specs.declared.instruction.Operation.{Operation};
+ghost use Rattle.vk_object.specs.Lane.{is_live};
+ghost use Rattle.vk_object.specs.Machine.{Site, World, enters, first_lane, performs_some, run, runs, word_in};
+ghost use Rattle.vk_object.specs.Memory.{Memory};
+ghost use Rattle.vk_object.specs.Tables.{Tables};
+ghost use Rattle.vk_runs.specs.Logs.{Grows};
+ghost use Rattle.vk_runs.specs.Rest.{IsAtRest, StaysAtRest};
+
+/// The log of a run is the log before it and some events more.
+pub fn logs()
+    ensures { (image : Tables) (turns e : ℕ) (on : ℕ → Bool) (args : ℕ → ℕ → ℕ) (mem : Memory) → Grows mem (runs image turns e on args mem).mem }
+{}
+
+/// An instruction keeps the registers of a lane that is not live in its mask.
+pub fn lanes_not_live()
+    ensures { (s : Site) (m : ℕ) (o : Option Operation) (w : World) (j : ℕ) → is_live m (w.lane j) ≡ false
+        → ((performs_some s m o w).lane j).reg ≡ (w.lane j).reg }
+{}
+
+/// A lane that is live in no mask keeps its registers and its stop, and stays so, while any code runs.
+pub fn lanes_at_rest()
+    ensures { (s : Site) (instrs : List Instr) (skip count : ℕ) (w : World) (j : ℕ) → IsAtRest (w.lane j)
+        → StaysAtRest (w.lane j) ((run s instrs skip count w).lane j) }
+{}
+
+/// A lane that a call does not give does not stop, and its result is what the result's register has at first.
+pub fn lanes_off()
+    ensures stop { (image : Tables) (turns e : ℕ) (on : ℕ → Bool) (args : ℕ → ℕ → ℕ) (mem : Memory) (j : ℕ) → on j ≡ false
+        → (runs image turns e on args mem).stop j ≡ None }
+    ensures value { (e : ℕ) (s : Site) (on : ℕ → Bool) (args : ℕ → ℕ → ℕ) (mem : Memory) (j : ℕ) → on j ≡ false
+        → (enters e s on args mem).value j ≡ word_in s.code.routine.result (first_lane s.entry.lanes s.code.routine.params args on j) }
+{}
