@@ -1,7 +1,9 @@
 pub mod Kept
 pub mod Logs
 pub mod Operators
+pub mod Reached
 pub mod Rests
 pub mod Runs
 pub mod Typed
+pub mod Typing
 pub mod Words
