@@ -1,5 +1,7 @@
+pub mod Cells
 pub mod Kept
 pub mod Logs
+pub mod Memories
 pub mod Operators
 pub mod Reached
 pub mod Rests

@@ -24,3 +24,7 @@ HaveWords regs w = (j : ℕ) → HasWords regs (w.lane j)
 -- words of the parameters' types, in so many lanes
 abbrev pub AreArguments : ℕ → Listing → (ℕ → ℕ → ℕ) → Type 0
 AreArguments lanes c args = (p j : ℕ) → p < c.routine.params → j < lanes → IsWordOf (reg_type c.routine.regs p) (args p j)
+
+-- each cell has a word of its array's type
+abbrev pub HaveCells : List Extent → Memory → Type 0
+HaveCells arrays m = (a i : ℕ) (x : Extent) → slice_get arrays a ≡ Some x → is_canonical x.ty (m.cells a i) ≡ true

@@ -1,17 +1,17 @@
 // The laws of runs.
 
-ghost use Rattle.std.specs.Prelude.{◌≡◌, ℕ, zero, length, Bool, List, None, Option, Some, false, slice_get, true};
+ghost use Rattle.std.specs.Prelude.{◌≡◌, ℕ, zero, length, map, Bool, List, None, Option, Some, false, slice_get, true};
 ghost use Rattle.vk_code.specs.declared.instruction.Instr.{Instr};
 ghost use Rattle.vk_code.specs.declared.instruction.Operation.{Operation};
 ghost use Rattle.vk_code.specs.Listing.{Listing};
 ghost use Rattle.vk_object.specs.Images.{code_of, is_image, result_of};
 ghost use Rattle.vk_object.specs.Lane.{is_live};
-ghost use Rattle.vk_object.specs.Machine.{Site, World, enters, entry_at, first_lane, performs_some, run, runs, site_at, word_in};
+ghost use Rattle.vk_object.specs.Machine.{Site, World, enters, entry_at, extent_of, first_lane, performs_some, run, runs, site_at, word_in};
 ghost use Rattle.vk_object.specs.Memory.{Memory};
 ghost use Rattle.vk_object.specs.Tables.{EntryLists, Tables};
 ghost use Rattle.vk_runs.specs.Logs.{Grows};
 ghost use Rattle.vk_runs.specs.Rest.{IsAtRest, StaysAtRest};
-ghost use Rattle.vk_runs.specs.Words.{AreArguments, HaveWords, IsWordOf};
+ghost use Rattle.vk_runs.specs.Words.{AreArguments, HaveCells, HaveWords, IsWordOf};
 
 /// The log of a run is the log before it and some events more.
 pub fn logs()
@@ -47,4 +47,10 @@ pub fn words_of_types()
     ensures results { (image : Tables) → is_image image ≡ true → (turns e : ℕ) (x : EntryLists) (c : Listing)
         → slice_get image.entries e ≡ Some x → code_of image x ≡ Some c → (on : ℕ → Bool) (args : ℕ → ℕ → ℕ) (mem : Memory)
         → AreArguments x.lanes c args → (j : ℕ) → IsWordOf (result_of c) ((runs image turns e on args mem).value j) }
+{}
+
+/// A run leaves words of the arrays' types in all cells, where they were there before it.
+pub fn words_of_arrays()
+    ensures { (image : Tables) (turns e : ℕ) (on : ℕ → Bool) (args : ℕ → ℕ → ℕ) (mem : Memory) → HaveCells (map extent_of image.arrays) mem
+        → HaveCells (map extent_of image.arrays) (runs image turns e on args mem).mem }
 {}
