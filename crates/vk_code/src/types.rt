@@ -9,7 +9,7 @@ use crate::env::ObjectHead;
 use vk_types::{Op2, Ty, Word};
 
 /// The number of a register's type, 255 where there is no such register.
-pub(crate) fn reg_type(code: &Code, register: u16) -> u8
+pub fn reg_type(code: &Code, register: u16) -> u8
     ensures { result ≡ reg_type (routine_of code.now).regs register }
 {
     match code.regs.get(usize::from(register)) {
@@ -19,7 +19,7 @@ pub(crate) fn reg_type(code: &Code, register: u16) -> u8
 }
 
 /// The number of a result's type, 255 where there is none.
-pub(crate) fn result_type(code: &Code, register: Option<u16>) -> u8
+pub fn result_type(code: &Code, register: Option<u16>) -> u8
     ensures { result ≡ result_type (routine_of code.now).regs register }
 {
     match register {
@@ -39,13 +39,13 @@ pub(crate) fn address_type(object: ObjectHead) -> u8
     }
 }
 
-pub(crate) fn is_integer(number: u8) -> bool
+pub fn is_integer(number: u8) -> bool
     ensures { result ≡ is_integer number }
 {
     number < 8
 }
 
-pub(crate) fn is_pointer(number: u8) -> bool
+pub fn is_pointer(number: u8) -> bool
     ensures { result ≡ is_pointer number }
 {
     8 <= number && number < 24
@@ -88,7 +88,7 @@ fn is_shift(op: Op2) -> bool
 }
 
 /// Whether the pattern is that of a number of the type.
-pub(crate) fn is_canonical(ty: Ty, word: Word) -> bool
+pub fn is_canonical(ty: Ty, word: Word) -> bool
     ensures { result ≡ is_canonical ty word.0 }
 {
     let n = word.0.cast_signed();

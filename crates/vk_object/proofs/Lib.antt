@@ -1,5 +1,3 @@
-pub mod Accepted
-pub mod Kept
-pub mod Logs
-pub mod Runs
+pub mod Order
+pub mod Pairs
 pub mod Units

@@ -1,4 +1,5 @@
 pub mod Images
+pub mod Inner
 pub mod Lane
 pub mod Machine
 pub mod Memory

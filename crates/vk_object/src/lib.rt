@@ -3,10 +3,13 @@
 //! `specs/Machine.antt` says what the entries of an image do.
 #![tactic(auto)]
 
+pub mod elements;
 pub mod image;
 pub mod object;
+pub mod parameters;
 pub mod rows;
 pub mod tables;
+pub mod texts;
 
 pub use image::Image;
 pub use object::Object;

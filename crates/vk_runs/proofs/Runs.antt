@@ -9,6 +9,7 @@ use Rattle.vk_kinds.specs.declared.kinds.Isa.TheVariants.{B}
 use Rattle.vk_kinds.specs.declared.kinds.Kind.{Kind}
 use Rattle.vk_kinds.specs.declared.kinds.Kind.TheVariants.{Vector, Uniform, Linear}
 use Rattle.vk_kinds.specs.declared.kinds.Param.{Param}
+use Rattle.vk_kinds.specs.declared.kinds.Step.{Step}
 use Rattle.vk_kinds.specs.declared.kinds.Step.TheVariants.{By, Arg}
 use Rattle.vk_kinds.specs.declared.kinds.Target.TheVariants.{X86}
 use Rattle.vk_code.specs.declared.code.Shape.TheVariants.{Vector as AnyShape}
@@ -224,6 +225,31 @@ linear_argument = refl
 linear_by_an_argument : four (calling 1 (param Uniform) (param (Linear (Arg 0))) adds).value ≡ 0 ∷ 12 ∷ 14 ∷ 16 ∷ []
 unfolding int_wrap
 linear_by_an_argument = refl
+
+-- the callee reads an int through its first parameter, a pointer
+abbrev reading : Listing
+reading = record {
+  routine = record { lane_code = true; params = 2; result = Some 2; regs = Ptr I32 true ∷ Int I32 ∷ Int I32 ∷ []; masks = 1; slots = []; loops = 0; instrs = instr 7 0 0 2 0 0 ∷ [] };
+  loops = [];
+}
+
+-- lanes 1 to 3 call it on the address of `a` and their first argument, with a pointer that grows by this step
+abbrev pointing : Step → Param → Given
+pointing step q =
+    let slot : CallSite = record { function = 2; always = true; result = Some 2; args = arg 4 ∷ arg 0 ∷ [] } in
+    let i : Tables = image (code (slot ∷ []) (instr 10 0 0 4 0 0 ∷ instr 16 0 0 0 0 0 ∷ []) ∷ reading ∷ [])
+    (entry M 4 0 [] (1 ∷ []) [] ∷ entry M 4 1 (param (Linear step) ∷ q ∷ []) [] [] ∷ []) in
+    runs i 5 0 (λ j. not (j == 0)) tens (first_memory i)
+
+-- 4 bytes are one element
+linear_pointer : four (pointing (By (pos 4)) (param Vector)).value ≡ 0 ∷ 5 ∷ 6 ∷ 7 ∷ []
+unfolding int_wrap
+linear_pointer = refl
+
+-- lane 1 has the step, 2 elements
+linear_pointer_by_an_argument : four (pointing (Arg 1) (param Uniform)).value ≡ 0 ∷ 5 ∷ 7 ∷ 0 ∷ []
+unfolding int_wrap
+linear_pointer_by_an_argument = refl
 
 scalar_target : four (calling 2 (param Vector) (param Vector) adds).value ≡ 0 ∷ 12 ∷ 23 ∷ 34 ∷ []
 unfolding int_wrap

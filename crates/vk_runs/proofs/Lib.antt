@@ -1,0 +1,11 @@
+pub mod Cells
+pub mod Kept
+pub mod Logs
+pub mod Memories
+pub mod Operators
+pub mod Reached
+pub mod Rests
+pub mod Runs
+pub mod Typed
+pub mod Typing
+pub mod Words
