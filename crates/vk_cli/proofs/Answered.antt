@@ -1,12 +1,11 @@
 -- What the steps of the top call say of its answer.
-use Rattle.std.proofs.Common.{◌≡◌, ◌⊎◌, inl, inr, ℕ, List, [], ◌∷◌, IsTrue, refl, sym, subst}
+use Rattle.std.proofs.Common.{◌≡◌, ◌⊎◌, inl, inr, [], ◌∷◌, refl, sym, subst}
 use Rattle.vk_io.specs.Sink.{SinkState}
 use Rattle.vk_io.specs.Store.{StoreState}
 use Rattle.vk_io.proofs.Counting.{Reads-none}
 use Rattle.vk_ends.specs.declared.ends.End.{End}
 use Rattle.vk_ends.specs.declared.ends.End.TheVariants.{Words, Memory}
 use Rattle.vk_ends.specs.declared.ends.WordFault.{WordFault}
-use Rattle.vk_ends.specs.declared.ends.WordRule.{WordRule}
 use Rattle.vk_ends.proofs.Acting.{Stays-none, acts_memory}
 use Rattle.vk_ends.proofs.Holding.{Holds-told, holds}
 use Rattle.vk_words.specs.Command.{Command, demangle, lanes}

@@ -1,7 +1,7 @@
 -- Over files in memory no count rises.
 use Rattle.std.proofs.Common.{◌≡◌, ◌∙◌, ◌⊎◌, ℕ, ◌≤◌, List, IsTrue, Option, sym, subst, arith}
 use Rattle.vk_types.specs.declared.types.Stop.{Stop}
-use Rattle.vk_io.specs.Counts.{IsOneOf, Rose, next_count}
+use Rattle.vk_io.specs.Counts.{Rose, next_count}
 use Rattle.vk_io.specs.Sink.{SinkState}
 use Rattle.vk_io.specs.Store.{StoreState}
 use Rattle.vk_ends.specs.Holds.{Holds, end_of}

@@ -1,5 +1,5 @@
 -- What holds where the words ask nothing.
-use Rattle.std.specs.Prelude.{◌≡◌, ⊤, List, [], IsTrue}
+use Rattle.std.specs.Prelude.{◌≡◌, ⊤, [], IsTrue}
 use Rattle.vk_io.specs.Sink.{SinkState, Stays}
 use Rattle.vk_io.specs.Store.{Reads, StoreState}
 use Rattle.vk_ends.specs.declared.ends.End.{End}

@@ -1,4 +1,4 @@
-use Rattle.std.proofs.Common.{◌≡◌, Bor, List, ℕ, map, sym, subst}
+use Rattle.std.proofs.Common.{Bor, List, ℕ, map, sym, subst}
 use Rattle.vk_words.specs.Command.{command_of, demangle, lanes}
 use Rattle.vk_words.specs.Views.{lanes_asked}
 use Rattle.vk_words.specs.declared.request.Request.{Request}

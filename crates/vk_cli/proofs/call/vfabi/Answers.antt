@@ -1,6 +1,9 @@
 use Rattle.std.proofs.Common.{◌≡◌, ◌⊎◌, ◌∙◌, [], List, ℕ, Err, ap, sym, subst}
+use Rattle.vk_ends.specs.declared.ends.End.{End}
 use Rattle.vk_ends.specs.declared.ends.End.TheVariants.{Words, Memory}
 use Rattle.vk_words.specs.Command.{IsCommand, IsWordFault, files_of}
+use Rattle.vk_cli.specs.Commands.{CommandHolds}
+use Rattle.vk_cli.proofs.Answered.{memory_holds}
 use Rattle.vk_cli.proofs.call.vfabi.Goals as goal
 
 pub returns-in-Err-Fault-clause-words_when : goal.returns-in-Err-Fault-clause-words_when
@@ -18,3 +21,9 @@ returns-in-Err-Memory-clause-reports g c k is = c.report_memory.ensures.reports 
 
 pub returns-in-Err-Memory-clause-words_reports : goal.returns-in-Err-Memory-clause-words_reports
 returns-in-Err-Memory-clause-words_reports g c none = c.report_memory.ensures.reports []
+
+pub returns-in-Err-Memory-clause-command : goal.returns-in-Err-Memory-clause-command
+returns-in-Err-Memory-clause-command g c k is =
+    let store = g.S.Store.state c.args.store.now in
+    let out = g.O.Sink.state c.args.out.now in
+    subst (λ (end : End). CommandHolds k store store out out end) (sym c.report_memory.ensures.end) (memory_holds k store out)
