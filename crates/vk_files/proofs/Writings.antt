@@ -16,6 +16,7 @@ use Rattle.vk_files.specs.Writing.{HoldsFront}
 pub Writes-then : (name : List ℕ) (a b c : StoreState) → Writes name a b → Writes name b c → Writes name a c
 Writes-then name a b c x y = record {
   tells = y.tells ∙ x.tells;
+  is_sound = y.is_sound ∙ x.is_sound;
   file = λ q ne. y.file q ne ∙ x.file q ne;
   reads = λ q. y.reads q ∙ x.reads q;
   writes = CountsOf-then (name ∷ []) a.writes b.writes c.writes x.writes y.writes;
