@@ -3,7 +3,6 @@
 use crate::front::{front_of, tower};
 use crate::print::Printer;
 use std::test::Fail;
-use vk_ast::{Clause, ClauseKind, PlacedName};
 use vk_parse_directives::{read_clauses, read_directive};
 
 static LINES: [(&str, &str); 61] = [
@@ -79,6 +78,25 @@ static LINES: [(&str, &str); 61] = [
     (", , inbranch", "1other 3inbranch"),
 ];
 
+// Clauses over several lines: the line of each, and the names in it with theirs.
+static PLACES: [(&str, &str); 6] = [
+    ("uniform(a, b)", "1(uniform@1 a@1 b@1)"),
+    (
+        "\\\nuniform(a, \\\nb) \\\nlinear(c)",
+        "2(uniform@2 a@2 b@3) 4(linear@4 c@4)",
+    ),
+    (
+        "aligned(a \\\n: \\\n8) inbranch",
+        "1(aligned@1 a@1) 3(inbranch@3)",
+    ),
+    ("linear(val(a, \\\nb) : \\\nc)", "1(linear@1 val@1 a@1 b@2 c@3)"),
+    (
+        "simdlen(\\\n4) \\\nnotinbranch",
+        "1(simdlen@1) 3(notinbranch@3)",
+    ),
+    ("inbranch (\\\n)", "1()"),
+];
+
 // So many signs before a literal, and whether the clause is of no form.
 static LEVELS: [(u32, bool); 2] = [(63, false), (64, true)];
 
@@ -135,34 +153,12 @@ fn reads_the_directive_of_a_line(rt: HostRuntime) -> Result<(), Fail> {
 #[test]
 fn keeps_the_lines_of_clauses_and_names(rt: HostRuntime) -> Result<(), Fail> {
     let alloc = rt.alloc();
-    let text = "#pragma omp declare simd \\\nuniform(a, \\\nb) linear(c)\n";
-    let front = front_of(&rt, alloc, text)?;
-    let names = &front.tokens.names;
-    let syms = &front.syms;
-    assert_eq!(rt; syms.lines.len(), 1);
-    assert_eq!(rt; syms.outside.len(), 1);
-    let directive = read_directive(alloc, names, syms, syms.outside[0], 1).map_err(
-        |_| "no memory",
-    )?;
-    let printer = Printer { alloc, names };
-    assert_eq!(rt; directive.clauses.len(), 2);
-    let uniform = &directive.clauses[0];
-    assert_eq!(rt; uniform.line, 2);
-    assert!(rt; printer.placed(listed(uniform))?.as_str() == "a@2 b@3");
-    assert!(rt; printer.placed(&uniform.names)?.as_str() == "uniform@2 a@2 b@3");
-    let linear = &directive.clauses[1];
-    assert_eq!(rt; linear.line, 3);
-    assert!(rt; printer.placed(listed(linear))?.as_str() == "c@3");
-    assert!(rt; printer.placed(&linear.names)?.as_str() == "linear@3 c@3");
-    Ok(())
-}
-
-// The names that a clause lists.
-fn listed(clause: &Clause) -> &[PlacedName] {
-    match &clause.kind {
-        ClauseKind::Uniform(names) => names,
-        ClauseKind::Aligned(names, _) => names,
-        ClauseKind::Linear(names, _, _) => names,
-        _ => &[],
+    for (text, want) in &PLACES {
+        let front = front_of(&rt, alloc, text)?;
+        let names = &front.tokens.names;
+        let clauses = read_clauses(alloc, names, &front.syms.outside).map_err(|_| "no memory")?;
+        let found = Printer { alloc, names }.places(&clauses)?;
+        assert!(rt; found.as_str() == *want, "{text}");
     }
+    Ok(())
 }

@@ -235,6 +235,18 @@ impl Printer<'_> {
         Ok(text)
     }
 
+    /// The line of each clause, and the names in it with theirs.
+    pub(crate) fn places(&self, clauses: &[Clause]) -> Result<String, AllocError> {
+        let mut text = String::new(self.alloc);
+        for clause in clauses {
+            let line = clause.line;
+            let names = self.placed(&clause.names)?;
+            let more = format!(in self.alloc; "{line}({names})")?;
+            self.behind(&mut text, more.as_str())?;
+        }
+        Ok(text)
+    }
+
     /// The number of a directive, and its clauses where it has any.
     pub(crate) fn directive(&self, directive: &Directive) -> Result<String, AllocError> {
         let number = directive.number;
