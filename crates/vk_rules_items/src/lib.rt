@@ -11,6 +11,7 @@ mod redeclarations;
 mod seen;
 mod sizes;
 mod survey;
+mod tables;
 mod types;
 
 pub use items::judge_items;

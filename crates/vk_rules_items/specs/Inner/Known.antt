@@ -25,8 +25,8 @@ before_of survey seen = map item_of (take seen.number survey.items.now)
 
 -- The tables are those of the unit: the length of each item, and the nodes of the definition of each function.
 pub record IsSurvey (survey : Survey) : Type 0 where
-  pub lengths : survey.lengths.now ≡ map length_of_item (unit_items survey)
-  pub nodes : (id : NameId) → number_at survey.nodes.now id ≡ option_map nodes_told (definition_in (unit_items survey) id)
+  pub lengths : survey.lengths.items ≡ map length_of_item (unit_items survey)
+  pub nodes : (id : NameId) → number_at survey.nodes.items id ≡ option_map nodes_told (definition_in (unit_items survey) id)
 
 -- The tables are those of the items before: the first declaration of each name, which names are defined, and the sum of the
 -- costs.

@@ -1,0 +1,57 @@
+// The rule C17: what the variants of functions cost.
+
+ghost use Rattle.std.specs.Prelude.{◌≡◌, ◌+◌, ◌*◌};
+ghost use Rattle.vk_ast.specs.Units.{function, function_of};
+ghost use Rattle.vk_rules_book.specs.Items.{cost, cost_at, passes};
+ghost use Rattle.vk_rules_items.specs.Inner.Counts.{up_to_limit};
+ghost use Rattle.vk_rules_items.specs.Inner.Known.{IsSeen, IsSurvey, before_of, unit_items};
+
+use crate::seen::Seen;
+use crate::survey::Survey;
+use crate::tables::number_of;
+use vk_ast::{Function, function_nodes};
+
+/// The functions of a unit cost at most this much. Sums are kept up to one more.
+const MAX_COST: u32 = 40000;
+
+// The nodes of a function's definition and 16, or those of its declaration where there is none.
+#[tactic(auto, using(crate::proofs::Limits::told_nodes, crate::proofs::Limits::told_weight))]
+fn weight(survey: &Survey, f: &Function) -> usize
+    requires { IsSurvey survey.now }
+    ensures { up_to_limit result ≡ up_to_limit (weight (function_of f.now) (definition_in (unit_items survey.now) f.now.name)) }
+{
+    match number_of(&survey.nodes, f.name) {
+        Some(nodes) => nodes.saturating_add(16),
+        None => function_nodes(f) as usize,
+    }
+}
+
+// What the variants of a function cost that is declared here first.
+fn cost(survey: &Survey, f: &Function) -> u32
+    requires { IsSurvey survey.now }
+    ensures { result ≡ up_to_limit (cost (unit_items survey.now) (function_of f.now)) }
+{
+    let declarations = f.directives.len().saturating_add(1);
+    let whole = declarations.saturating_mul(weight(survey, f));
+    whole.min(MAX_COST as usize + 1) as u32
+}
+
+/// What the next item adds to the sum, which is a function: nothing where it was declared before.
+pub fn cost_at(survey: &Survey, seen: &Seen, f: &Function) -> u32
+    requires survey { IsSurvey survey.now }
+    requires seen { IsSeen survey.now seen.now }
+    ensures { result ≡ up_to_limit (cost_at survey.now.names.now (unit_items survey.now) (before_of survey.now seen.now) (function (function_of f.now))) }
+{
+    if number_of(&seen.first, f.name).is_some() || seen.scope(survey).is_print(f.name) {
+        0
+    } else {
+        cost(survey, f)
+    }
+}
+
+/// Whether the sum passes its limit with this cost.
+pub fn passes(seen: &Seen, cost: u32) -> bool
+    ensures { result ≡ (nat_le seen.now.cost 40000 && nat_lt 40000 (seen.now.cost + cost)) }
+{
+    seen.cost <= MAX_COST && seen.cost.saturating_add(cost) > MAX_COST
+}
