@@ -12,7 +12,7 @@ use crate::tables::number_of;
 use vk_ast::{Function, function_nodes};
 
 /// The functions of a unit cost at most this much. Sums are kept up to one more.
-const MAX_COST: u32 = 40000;
+pub const MAX_COST: u32 = 40000;
 
 // The nodes of a function's definition and 16, or those of its declaration where there is none.
 #[tactic(auto, using(crate::proofs::Limits::told_nodes, crate::proofs::Limits::told_weight))]

@@ -9,6 +9,7 @@ ghost use Rattle.vk_rules_book.specs.Scopes.{file_scope};
 ghost use Rattle.vk_rules_names.specs.Seen.{number_at, scope_of, unit_in};
 ghost use Rattle.vk_rules_items.specs.Inner.Known.{IsSeen, IsSurvey, before_of, judged};
 
+use crate::costs::MAX_COST;
 use crate::survey::Survey;
 use crate::tables::keep;
 use std::alloc::Global;
@@ -104,7 +105,7 @@ impl Seen {
         let item = &survey.items[self.number];
         declare_next(&mut self.first, survey.items, self.number)?;
         note_definition(&mut self.defined, item, self.number)?;
-        self.cost = (self.cost + cost).min(MAX_COST + 1);
+        self.cost = self.cost.saturating_add(cost).min(MAX_COST + 1);
         self.number += 1;
         Ok(())
     }
