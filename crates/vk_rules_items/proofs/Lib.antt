@@ -1,1 +1,8 @@
 mod Limits
+mod Types
+mod Tables
+mod Declared
+mod Costs
+mod Locals
+mod Initials
+mod Walk

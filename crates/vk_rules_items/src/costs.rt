@@ -1,8 +1,8 @@
 // The rule C17: what the variants of functions cost.
 
-ghost use Rattle.std.specs.Prelude.{◌≡◌, ◌+◌, ◌*◌};
+ghost use Rattle.std.specs.Prelude.{◌≡◌, ◌+◌, ◌&&◌, nat_le, nat_lt};
 ghost use Rattle.vk_ast.specs.Units.{function, function_of};
-ghost use Rattle.vk_rules_book.specs.Items.{cost, cost_at, passes};
+ghost use Rattle.vk_rules_book.specs.Items.{cost, cost_at, definition_in, weight};
 ghost use Rattle.vk_rules_items.specs.Inner.Counts.{up_to_limit};
 ghost use Rattle.vk_rules_items.specs.Inner.Known.{IsSeen, IsSurvey, before_of, unit_items};
 
@@ -37,7 +37,7 @@ fn cost(survey: &Survey, f: &Function) -> u32
 }
 
 /// What the next item adds to the sum, which is a function: nothing where it was declared before.
-pub fn cost_at(survey: &Survey, seen: &Seen, f: &Function) -> u32
+pub fn cost_at<'a>(survey: &'a Survey<'a>, seen: &'a Seen, f: &Function) -> u32
     requires survey { IsSurvey survey.now }
     requires seen { IsSeen survey.now seen.now }
     ensures { result ≡ up_to_limit (cost_at survey.now.names.now (unit_items survey.now) (before_of survey.now seen.now) (function (function_of f.now))) }

@@ -1,6 +1,6 @@
 // The lengths of arrays.
 
-ghost use Rattle.std.specs.Prelude.{◌≡◌, map, IfOk};
+ghost use Rattle.std.specs.Prelude.{◌≡◌, map, true, IfOk, Some, None};
 ghost use Rattle.std.specs.Option.{option_map};
 ghost use Rattle.vk_ast.specs.Tree.{expr_of};
 ghost use Rattle.vk_ast.specs.Units.{item_of, object_of};

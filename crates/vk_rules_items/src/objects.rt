@@ -2,13 +2,14 @@
 
 ghost use Rattle.std.specs.Prelude.{◌≡◌, ◌||◌, [], map, is_none};
 ghost use Rattle.std.specs.Option.{option_map};
-ghost use Rattle.vk_kinds.specs.declared.heads.CType.TheVariants.{Void};
 ghost use Rattle.vk_ast.specs.Tree.{expr_of};
 ghost use Rattle.vk_ast.specs.Units.{object, object_of};
+ghost use Rattle.vk_numbers.specs.Constants.{constant_of};
+ghost use Rattle.vk_rules_book.specs.declared.contexts.Role.TheVariants.{Value};
 ghost use Rattle.vk_rules_book.specs.Faults.{first_among};
-ghost use Rattle.vk_rules_book.specs.Items.{has_no_length, has_wrong_initialiser, initial_faults, is_past, item_faults, length_of};
+ghost use Rattle.vk_rules_book.specs.Items.{has_no_length, has_wrong_initialiser, initial_faults, is_bare_initialiser, is_past, item_faults, length_of};
 ghost use Rattle.vk_rules_book.specs.Noting.{found};
-ghost use Rattle.vk_rules_book.specs.Visits.{at_file_scope, initial_visits, initialiser_visits, length_visits};
+ghost use Rattle.vk_rules_book.specs.Visits.{at_file_scope, initial_visits, initialiser_visits, length_visits, visits_of};
 ghost use Rattle.vk_rules_names.specs.Seen.{scope_of, unit_in};
 ghost use Rattle.vk_rules_items.specs.Inner.Known.{IsSeen, IsSurvey, before_of, unit_items};
 
@@ -116,14 +117,21 @@ fn is_past(number: usize, length: Option<u32>) -> bool
     }
 }
 
-// C11: what an expression with this number breaks in the initialiser of an object of this length.
+// C11: whether an expression with this number is no constant, or past the end of this length.
+fn is_wrong_initial(number: usize, length: Option<u32>, e: &Expr) -> bool
+    ensures { result ≡ (is_none (constant_of (expr_of e.now)) || is_past number length) }
+{
+    constant_of(e).is_none() || is_past(number, length)
+}
+
+// What an expression with this number breaks in the initialiser of an object of this length.
 #[tactic(auto, unfolding(vk_rules_book::specs::Items::initial_faults))]
 fn judge_constant(o: &Object, length: Option<u32>, number: usize, e: &Expr, note: &mut Note)
     requires { length ≡ length_of (object_of o.now) }
     ensures { note.new.first ≡ first_among note.old.first (initial_faults (object_of o.now) number (expr_of e.now)) }
 {
     note.add(
-        constant_of(e).is_none() || is_past(number, length),
+        is_wrong_initial(number, length, e),
         fault_at(e.line, e.token, UnitRule::C11),
     );
 }

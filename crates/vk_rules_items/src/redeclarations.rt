@@ -1,6 +1,6 @@
 // The rule C13: whether a declaration agrees with the first one of its name.
 
-ghost use Rattle.std.specs.Prelude.{◌≡◌, ◌&&◌, not, cond, is_some, is_none, slice_get};
+ghost use Rattle.std.specs.Prelude.{◌≡◌, ◌&&◌, ◌||◌, slice_get};
 ghost use Rattle.std.specs.Option.{option_and_then, option_map};
 ghost use Rattle.vk_ast.specs.Units.{function, function_of, item_of, object, object_of};
 ghost use Rattle.vk_rules_book.specs.Items.{agrees, disagrees, is_wrong_again, length_of, lengths_differ};
@@ -84,13 +84,21 @@ fn disagrees_object(survey: &Survey, first: Option<usize>, o: &Object, length: O
     !agrees_object(&survey.items[number], survey.lengths[number], o, length)
 }
 
+// Whether a declaration disagrees with the first one, or defines what is defined.
+fn is_wrong(disagrees: bool, defines: bool, defined: bool) -> bool
+    ensures { result ≡ (disagrees || (defines && defined)) }
+{
+    disagrees || (defines && defined)
+}
+
 /// C13: a declaration of a function that disagrees with the first one of its name, or a second definition.
 pub fn is_wrong_function(survey: &Survey, seen: &Seen, f: &Function) -> bool
     requires { IsSeen survey.now seen.now }
     ensures { result ≡ is_wrong_again (before_of survey.now seen.now) f.now.name (function (function_of f.now)) }
 {
-    disagrees_function(survey, number_of(&seen.first, f.name), f)
-        || (f.body.is_some() && number_of(&seen.defined, f.name).is_some())
+    let disagrees = disagrees_function(survey, number_of(&seen.first, f.name), f);
+    let defined = number_of(&seen.defined, f.name).is_some();
+    is_wrong(disagrees, f.body.is_some(), defined)
 }
 
 /// C13: a declaration of an object of this length that disagrees with the first one of its name, or a second definition.
@@ -100,6 +108,7 @@ pub fn is_wrong_object(survey: &Survey, seen: &Seen, o: &Object, length: Option<
     requires length { length ≡ length_of (object_of o.now) }
     ensures { result ≡ is_wrong_again (before_of survey.now seen.now) o.now.name (object (object_of o.now)) }
 {
-    disagrees_object(survey, number_of(&seen.first, o.name), o, length)
-        || (!o.outside && number_of(&seen.defined, o.name).is_some())
+    let disagrees = disagrees_object(survey, number_of(&seen.first, o.name), o, length);
+    let defined = number_of(&seen.defined, o.name).is_some();
+    is_wrong(disagrees, !o.outside, defined)
 }

@@ -1,13 +1,14 @@
 // What is known of the items before one.
 
-ghost use Rattle.std.specs.Prelude.{◌≡◌, ◌<◌, ◌+◌, length, cond, IfOk, OnOk, Some, None, get_or};
+ghost use Rattle.std.specs.Prelude.{◌≡◌, ◌<◌, ◌+◌, ◌&&◌, length, cond, not, is_some, IfOk, OnOk, Some, None, get_or};
 ghost use Rattle.std.specs.Option.{option_or};
 ghost use Rattle.vk_ast.specs.declared.names.NameId.{NameId};
 ghost use Rattle.vk_ast.specs.Units.{item_of};
-ghost use Rattle.vk_rules_book.specs.Items.{defines};
-ghost use Rattle.vk_rules_book.specs.Scopes.{file_scope};
+ghost use Rattle.vk_rules_book.specs.Items.{cost_at, defines};
+ghost use Rattle.vk_rules_book.specs.Scopes.{file_scope, same_name};
 ghost use Rattle.vk_rules_names.specs.Seen.{number_at, scope_of, unit_in};
-ghost use Rattle.vk_rules_items.specs.Inner.Known.{IsSeen, IsSurvey, before_of, judged};
+ghost use Rattle.vk_rules_items.specs.Inner.Known.{IsSeen, before_of, judged, unit_items};
+ghost use Rattle.vk_rules_items.specs.Inner.Counts.{up_to_limit};
 
 use crate::costs::MAX_COST;
 use crate::survey::Survey;

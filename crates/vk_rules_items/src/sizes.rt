@@ -1,6 +1,6 @@
 // How large functions are.
 
-ghost use Rattle.std.specs.Prelude.{◌≡◌, min};
+ghost use Rattle.std.specs.Prelude.{◌≡◌, ◌+◌, min, nat_lt};
 ghost use Rattle.std.specs.Option.{option_map};
 ghost use Rattle.vk_ast.specs.Statements.{stmt_of};
 ghost use Rattle.vk_ast.specs.Units.{function_of};

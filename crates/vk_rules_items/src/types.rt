@@ -28,15 +28,15 @@ pub fn same_ctype(a: CType, b: CType) -> bool
 pub fn same_types(a: &[ParamDecl], b: &[ParamDecl]) -> bool
     ensures { result ≡ same_ctypes (types_of a.now) (types_of b.now) }
 {
+    if a.len() != b.len() {
+        return false;
+    }
     for (i, p) in a.iter().enumerate() {
-        let Some(q) = b.get(i) else {
-            return false;
-        };
-        if !same_ctype(p.ctype, q.ctype) {
+        if !same_ctype(p.ctype, b[i].ctype) {
             return false;
         }
     }
-    b.len() <= a.len()
+    true
 }
 
 // Whether there is one parameter, of type `long`.

@@ -1,0 +1,45 @@
+-- The expressions of an initialiser one after another.
+use Rattle.std.proofs.Common.{◌≡◌, ℕ, ◌+◌, ◌<◌, ◌≤◌, List, [], ◌∷◌, ◌++◌, length, map, take, get_or, Option, refl, sym, ap, ◌∙◌, arith}
+use Rattle.std.proofs.lemmas.List.{append-nil, append_assoc, length-take-le, length-map, map-append, take_more, take_all}
+use Rattle.vk_ast.specs.declared.expressions.Expr.{Expr}
+use Rattle.vk_ast.specs.Tree.{Tree, expr_of}
+use Rattle.vk_ast.specs.Units.{ObjectTree}
+use Rattle.vk_rules_book.specs.declared.contexts.Role.TheVariants as role
+use Rattle.vk_rules_book.specs.declared.faults.Fault.{Fault}
+use Rattle.vk_rules_book.specs.Faults.{first_among}
+use Rattle.vk_rules_book.specs.Items.{initial_faults}
+use Rattle.vk_rules_book.specs.Noting.{found}
+use Rattle.vk_rules_book.specs.Rules.{Subject}
+use Rattle.vk_rules_book.specs.Scopes.{Scope}
+use Rattle.vk_rules_book.specs.Visits.{at_file_scope, initial, initial_visits, visits_of}
+use Rattle.vk_rules_book.proofs.Noting.{found_append, found_first}
+
+visits_push : (s : Scope) (o : ObjectTree) (n : ℕ) (es : List Tree) (e : Tree)
+    → initial_visits s o n (es ++ e ∷ []) ≡ initial_visits s o n es ++ (initial o (n + length es) e ∷ visits_of at_file_scope s role.Value e)
+visits_push s o n [] e =
+    let none : n ≡ n + 0 = omega arith in
+    ap (λ vs. initial o n e ∷ vs) (append-nil (visits_of at_file_scope s role.Value e)) ∙ ap (λ k. initial o k e ∷ visits_of at_file_scope s role.Value e) none
+visits_push s o n (x ∷ es) e =
+    let on : n + 1 + length es ≡ n + length (x ∷ es) = omega arith in
+    ap (λ vs. initial o n x ∷ (visits_of at_file_scope s role.Value x ++ vs))
+    (visits_push s o (n + 1) es e ∙ ap (λ k. initial_visits s o (n + 1) es ++ (initial o k e ∷ visits_of at_file_scope s role.Value e)) on)
+    ∙ ap (λ vs. initial o n x ∷ vs) (sym (append_assoc (visits_of at_file_scope s role.Value x) (initial_visits s o (n + 1) es) _))
+
+-- what is noted behind one expression more
+pub next_initial : (unit : Subject) (s : Scope) (o : ObjectTree) (es : List Expr) (k : ℕ) (e : Expr) (old before constant next : Option Fault) → k < length es → e ≡ get_or es k e
+    → before ≡ found unit old (initial_visits s o 0 (map expr_of (take k es))) → constant ≡ first_among before (initial_faults o k (expr_of e))
+    → next ≡ found unit constant (visits_of at_file_scope s role.Value (expr_of e))
+    → next ≡ found unit old (initial_visits s o 0 (map expr_of (take (k + 1) es)))
+next_initial unit s o es k e old before constant next lt is told judged noted =
+    let len : 0 + length (map expr_of (take k es)) ≡ k = omega (arith, length-map (take k es) expr_of, length-take-le k es (omega (arith, lt))) in
+    let more : map expr_of (take (k + 1) es) ≡ map expr_of (take k es) ++ expr_of e ∷ [] =
+        ap (map expr_of) (take_more es k e lt ∙ ap (λ x. take k es ++ x ∷ []) (sym is)) ∙ map-append expr_of (take k es) (e ∷ []) in
+    noted ∙ ap (λ o'. found unit o' (visits_of at_file_scope s role.Value (expr_of e))) (judged ∙ ap (λ b. first_among b (initial_faults o k (expr_of e))) told)
+    ∙ sym (ap (λ xs. found unit old (initial_visits s o 0 xs)) more
+    ∙ ap (found unit old) (visits_push s o 0 (map expr_of (take k es)) (expr_of e) ∙ ap (λ n. initial_visits s o 0 (map expr_of (take k es)) ++ (initial o n (expr_of e) ∷ visits_of at_file_scope s role.Value (expr_of e))) len)
+    ∙ found_append unit old (initial_visits s o 0 (map expr_of (take k es))) _
+    ∙ found_first unit (found unit old (initial_visits s o 0 (map expr_of (take k es)))) (initial o k (expr_of e)) (visits_of at_file_scope s role.Value (expr_of e)))
+
+pub all_initials : (unit : Subject) (s : Scope) (o : ObjectTree) (es : List Expr) (k : ℕ) (old now : Option Fault) → length es ≤ k
+    → now ≡ found unit old (initial_visits s o 0 (map expr_of (take k es))) → now ≡ found unit old (initial_visits s o 0 (map expr_of es))
+all_initials unit s o es k old now past told = told ∙ ap (λ xs. found unit old (initial_visits s o 0 (map expr_of xs))) (take_all k es past)
