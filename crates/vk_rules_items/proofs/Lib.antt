@@ -1,8 +1,8 @@
 mod Limits
-mod Types
-mod Tables
+mod Parameters
+mod Surveys
 mod Declared
-mod Costs
+mod Sums
 mod Locals
 mod Initials
 mod Walk

@@ -1,0 +1,74 @@
+-- Sums of costs.
+use Rattle.std.proofs.Common.{◌≡◌, ℕ, zero, suc, ◌+◌, ◌*◌, ◌-◌, ◌^◌, ◌<◌, ◌≤◌, ◌⊎◌, inl, inr, ◌&&◌, min, nat_lt, List, [], ◌∷◌, ◌++◌, map, length, take, get_or, Option, Some, None, is_some, refl, sym, ap, ap₂, ◌∙◌, arith}
+use Rattle.std.proofs.lemmas.Bool.{cases_Bool}
+use Rattle.std.proofs.lemmas.Bool.Decides.{nat_tests}
+use Rattle.std.proofs.lemmas.List.{append-nil, append_assoc}
+use Rattle.std.specs.Option.{option_map}
+use Rattle.vk_ast.specs.declared.items.Item.{Item}
+use Rattle.vk_ast.specs.Units.{FunctionTree, ItemTree, function, item_of}
+use Rattle.vk_rules_book.specs.Items.{cost, cost_at, costs, weight}
+use Rattle.vk_rules_names.proofs.Tables.{grown}
+use Rattle.vk_rules_items.specs.Inner.Counts.{nodes_told, up_to_limit}
+use Rattle.vk_rules_items.proofs.Limits.{sum_told}
+
+pub no_costs : (texts : List (List ℕ)) (unit before : List ItemTree) → costs texts unit before [] ≡ 0
+unfolding costs
+no_costs texts unit before = refl
+
+costs_push : (texts : List (List ℕ)) (unit before xs : List ItemTree) (x : ItemTree) → costs texts unit before (xs ++ x ∷ []) ≡ costs texts unit before xs + cost_at texts unit (before ++ xs) x
+unfolding costs
+costs_push texts unit before [] x =
+    let here : cost_at texts unit before x ≡ cost_at texts unit (before ++ []) x = ap (λ ys. cost_at texts unit ys x) (sym (append-nil before)) in
+    omega (arith, here)
+costs_push texts unit before (y ∷ xs) x =
+    let on : costs texts unit (before ++ y ∷ []) (xs ++ x ∷ []) ≡ costs texts unit (before ++ y ∷ []) xs + cost_at texts unit ((before ++ y ∷ []) ++ xs) x = costs_push texts unit (before ++ y ∷ []) xs x in
+    let same : cost_at texts unit ((before ++ y ∷ []) ++ xs) x ≡ cost_at texts unit (before ++ y ∷ xs) x = ap (λ ys. cost_at texts unit ys x) (append_assoc before (y ∷ []) xs) in
+    omega (arith, on, same)
+
+-- the sum with one item more
+pub next_cost : (texts : List (List ℕ)) (unit : List ItemTree) (items : List Item) (k : ℕ) (x : Item) (old new c : ℕ) → k < length items → x ≡ get_or items k x
+    → old ≡ up_to_limit (costs texts unit [] (map item_of (take k items))) → c ≡ up_to_limit (cost_at texts unit (map item_of (take k items)) (item_of x))
+    → new ≡ up_to_limit (old + c) → new ≡ up_to_limit (costs texts unit [] (map item_of (take (k + 1) items)))
+next_cost texts unit items k x old new c lt is before told more =
+    more ∙ ap₂ (λ (a b : ℕ). up_to_limit (a + b)) before told
+    ∙ sum_told (costs texts unit [] (map item_of (take k items))) (cost_at texts unit (map item_of (take k items)) (item_of x))
+    ∙ sym (ap (λ xs. up_to_limit (costs texts unit [] xs)) (grown items k x lt is) ∙ ap up_to_limit (costs_push texts unit [] (map item_of (take k items)) (item_of x)))
+
+-- ---- products
+
+factors_below : (a b : ℕ) → (suc a ≤ suc a * suc b) × (suc b ≤ suc a * suc b)
+factors_below a b = (omega arith, omega arith)
+
+same_products : (a b c d : ℕ) → min (suc a) 40001 ≡ min (suc c) 40001 → min (suc b) 40001 ≡ min (suc d) 40001 → up_to_limit (suc a * suc b) ≡ up_to_limit (suc c * suc d)
+same_products a b c d p q = elim (cases_Bool (nat_lt a 40000 && nat_lt b 40000)) [
+  | inl small ↦
+      let first : suc a ≡ suc c = grind (arith, nat_tests) in
+      let second : suc b ≡ suc d = grind (arith, nat_tests) in
+      ap₂ (λ (x y : ℕ). up_to_limit (x * y)) first second
+  | inr large ↦
+      let left = factors_below a b in
+      let right = factors_below c d in
+      let some : (40000 ≤ a) ⊎ (40000 ≤ b) = grind (arith, nat_tests) in
+      elim some [
+        | inl h ↦ omega (arith, h, p, left.0, right.0)
+        | inr h ↦ omega (arith, h, q, left.1, right.1)
+      ]
+]
+
+-- products of what is told up to the limit
+pub product_told : (a b c d : ℕ) → up_to_limit a ≡ up_to_limit c → up_to_limit b ≡ up_to_limit d → up_to_limit (a * b) ≡ up_to_limit (c * d)
+product_told zero b zero d p q = omega arith
+product_told zero b (suc c) d p q = absurd (omega (arith, p))
+product_told (suc a) b zero d p q = absurd (omega (arith, p))
+product_told (suc a) zero (suc c) zero p q = omega arith
+product_told (suc a) zero (suc c) (suc d) p q = absurd (omega (arith, q))
+product_told (suc a) (suc b) (suc c) zero p q = absurd (omega (arith, q))
+product_told (suc a) (suc b) (suc c) (suc d) p q = same_products a b c d p q
+
+-- what a function with so many directives costs, whose weight is told up to the limit
+pub cost_told : (count declarations told weight whole result : ℕ) → declarations ≡ min (count + 1) (2 ^ 64 - 1) → up_to_limit told ≡ up_to_limit weight
+    → whole ≡ min (declarations * told) (2 ^ 64 - 1) → result ≡ min whole 40001 → result ≡ up_to_limit ((1 + count) * weight)
+cost_told count declarations told weight whole result is same product capped =
+    let more : up_to_limit declarations ≡ up_to_limit (1 + count) = omega (arith, is) in
+    let below : result ≡ up_to_limit (declarations * told) = omega (arith, product, capped) in
+    below ∙ product_told declarations told (1 + count) weight more same
