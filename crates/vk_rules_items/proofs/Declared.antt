@@ -1,14 +1,14 @@
 -- What the items before one declare and define.
-use Rattle.std.proofs.Common.{◌≡◌, ℕ, zero, suc, ◌+◌, ◌<◌, ◌==◌, Bool, true, false, cond, ◌&&◌, ◌||◌, not, List, [], ◌∷◌, ◌++◌, map, length, take, get_or, Option, Some, None, is_some, refl, sym, ap, ap₂, ◌∙◌, arith}
+use Rattle.std.proofs.Common.{◌≡◌, ℕ, zero, suc, ◌+◌, ◌<◌, ◌==◌, Bool, true, false, cond, ◌&&◌, ◌||◌, not, List, [], ◌∷◌, ◌++◌, map, length, take, get_or, slice_get, Option, Some, None, is_some, refl, sym, ap, ap₂, ◌∙◌, arith}
 use Rattle.std.proofs.lemmas.Bool.Decides.{nat_tests}
-use Rattle.std.specs.List.{list_any}
-use Rattle.std.specs.Option.{option_or}
+use Rattle.std.specs.List.{list_any, position_from}
+use Rattle.std.specs.Option.{option_or, option_map, option_and_then}
 use Rattle.vk_ast.specs.declared.names.NameId.{NameId}
 use Rattle.vk_ast.specs.declared.items.Item.{Item}
 use Rattle.vk_ast.specs.Units.{FunctionTree, ObjectTree, ItemTree, function, object, item_of}
-use Rattle.vk_rules_book.specs.Items.{defines, disagrees, is_wrong_again}
-use Rattle.vk_rules_book.specs.Scopes.{Scope, Meaning, file_scope, first_declaration, same_name, is_print, printer, declared_meaning}
-use Rattle.vk_rules_names.specs.Seen.{HasFirst, file_seen, item_at, number_at}
+use Rattle.vk_rules_book.specs.Items.{agrees, defines, disagrees, is_wrong_again}
+use Rattle.vk_rules_book.specs.Scopes.{declares, file_scope, first_declaration, same_name, is_print, printer, declared_meaning}
+use Rattle.vk_rules_names.specs.Seen.{file_seen, item_at, number_at}
 use Rattle.vk_rules_names.proofs.Tables.{grown, has_first}
 use Rattle.vk_rules_items.specs.declared.survey.Survey.{Survey}
 use Rattle.vk_rules_items.specs.declared.seen.Seen.{Seen}
@@ -28,7 +28,32 @@ scope_seen survey seen texts is = λ i. record {
   outer = 0;
 }
 
+-- a name is declared where the table has a number for it
+pub declared_seen : (survey : Survey) (seen : Seen) → IsSeen survey seen → (id : NameId) → is_some (number_at seen.first.items id) ≡ is_some (first_declaration (before_of survey seen) id)
+declared_seen survey seen is id = ap (λ (n : Option ℕ). is_some n) (is.first id) ∙ some_position (before_of survey seen) 0 id
+  where
+    pick : (b : Bool) (i : ℕ) (x : ItemTree) (p : Option ℕ) (q : Option ItemTree) → is_some p ≡ is_some q → is_some (cond b (Some i) p) ≡ is_some (cond b (Some x) q)
+    pick true i x p q same = refl
+    pick false i x p q same = same
+
+    some_position : (xs : List ItemTree) (i : ℕ) (id : NameId) → is_some (position_from (declares id) i xs) ≡ is_some (first_declaration xs id)
+    unfolding first_declaration
+    some_position [] i id = refl
+    some_position (x ∷ xs) i id = pick (declares id x) i x _ _ (some_position xs (i + 1) id)
+
 -- ---- redeclarations
+
+item_here : (xs : List Item) (k : ℕ) (x : Item) → k < length xs → x ≡ get_or xs k x → slice_get xs k ≡ Some x
+item_here [] k x lt is = absurd (omega (arith, lt))
+item_here (y ∷ xs) zero x lt is = ap Some (sym is)
+item_here (y ∷ xs) (suc k) x lt is = item_here xs k x (omega (arith, lt)) is
+
+-- the item with this number disagrees
+pub disagrees_at : (items : List Item) (k : ℕ) (x : Item) (i : ItemTree) (first : Option ℕ) (r : Bool) → first ≡ Some k → k < length items → x ≡ get_or items k x
+    → r ≡ agrees (item_of x) i → not r ≡ disagrees (option_and_then (λ n. option_map item_of (slice_get items n)) first) i
+disagrees_at items k x i first r some lt is told =
+    ap not told
+    ∙ sym (ap (λ o. disagrees (option_and_then (λ n. option_map item_of (slice_get items n)) o) i) some ∙ ap (λ o. disagrees (option_map item_of o) i) (item_here items k x lt is))
 
 named : (a : NameId) → same_name a a ≡ true
 named a = grind (arith, nat_tests)

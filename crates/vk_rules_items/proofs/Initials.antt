@@ -1,13 +1,17 @@
 -- The expressions of an initialiser one after another.
-use Rattle.std.proofs.Common.{◌≡◌, ℕ, ◌+◌, ◌<◌, ◌≤◌, List, [], ◌∷◌, ◌++◌, length, map, take, get_or, Option, refl, sym, ap, ◌∙◌, arith}
+use Rattle.std.proofs.Common.{◌≡◌, ℕ, ◌+◌, Bool, ◌||◌, is_none, ap₂, ◌<◌, ◌≤◌, List, [], ◌∷◌, ◌++◌, length, map, take, get_or, Option, refl, sym, ap, ◌∙◌, arith}
 use Rattle.std.proofs.lemmas.List.{append-nil, append_assoc, length-take-le, length-map, map-append, take_more, take_all}
 use Rattle.vk_ast.specs.declared.expressions.Expr.{Expr}
-use Rattle.vk_ast.specs.Tree.{Tree, expr_of}
+use Rattle.vk_ast.specs.declared.expressions.ExprKind.{ExprKind}
+use Rattle.vk_ast.specs.Tree.{Tree, expr_of, kind_of}
 use Rattle.vk_ast.specs.Units.{ObjectTree}
 use Rattle.vk_rules_book.specs.declared.contexts.Role.TheVariants as role
 use Rattle.vk_rules_book.specs.declared.faults.Fault.{Fault}
-use Rattle.vk_rules_book.specs.Faults.{first_among}
-use Rattle.vk_rules_book.specs.Items.{initial_faults}
+use Rattle.vk_rules_book.specs.Faults.{fault_at, first_among, when}
+use Rattle.vk_rules_book.specs.Places.{line_of, token_of}
+use Rattle.vk_numbers.specs.Constants.{constant_of}
+use Rattle.vk_unit_rules.specs.declared.rules.UnitRule.TheVariants.{C11}
+use Rattle.vk_rules_book.specs.Items.{initial_faults, is_past, length_of}
 use Rattle.vk_rules_book.specs.Noting.{found}
 use Rattle.vk_rules_book.specs.Rules.{Subject}
 use Rattle.vk_rules_book.specs.Scopes.{Scope}
@@ -43,3 +47,20 @@ next_initial unit s o es k e old before constant next lt is told judged noted =
 pub all_initials : (unit : Subject) (s : Scope) (o : ObjectTree) (es : List Expr) (k : ℕ) (old now : Option Fault) → length es ≤ k
     → now ≡ found unit old (initial_visits s o 0 (map expr_of (take k es))) → now ≡ found unit old (initial_visits s o 0 (map expr_of es))
 all_initials unit s o es k old now past told = told ∙ ap (λ xs. found unit old (initial_visits s o 0 (map expr_of xs))) (take_all k es past)
+
+-- ---- one expression
+
+kind_line : (kind : ExprKind) (l k : ℕ) → line_of (kind_of kind l k) ≡ l
+kind_line kind l k = search rules
+
+kind_token : (kind : ExprKind) (l k : ℕ) → token_of (kind_of kind l k) ≡ k
+kind_token kind l k = search rules
+
+pub judged_initial : (o : ObjectTree) (n : ℕ) (e : Expr) (len : Option ℕ) (wrong : Bool) (fault : Fault) (old new : Option Fault) → len ≡ length_of o
+    → wrong ≡ (is_none (constant_of (expr_of e)) || is_past n len) → fault ≡ fault_at e.line e.token C11 → new ≡ first_among old (when wrong fault)
+    → new ≡ first_among old (initial_faults o n (expr_of e))
+unfolding initial_faults
+judged_initial o n e len wrong fault old new known told at noted =
+    noted
+    ∙ ap₂ (λ (b : Bool) (f : Fault). first_among old (when b f)) (told ∙ ap (λ (m : Option ℕ). is_none (constant_of (expr_of e)) || is_past n m) known)
+    (at ∙ ap₂ (λ (l k : ℕ). fault_at l k C11) (sym (kind_line e.kind e.line e.token)) (sym (kind_token e.kind e.line e.token)))

@@ -11,6 +11,10 @@ use Rattle.vk_rules_book.specs.Scopes.{same_name}
 use Rattle.vk_rules_names.proofs.Tables.{grown}
 use Rattle.vk_rules_items.specs.Inner.Counts.{length_of_item, nodes_told}
 
+pub some_map : {S T : Type 0} (f : S → T) (p : Option S) → is_some (option_map f p) ≡ is_some p
+some_map f None = refl
+some_map f (Some x) = refl
+
 -- ---- lengths
 
 -- the lengths of one item more

@@ -42,11 +42,13 @@ pub fn cost_at<'a>(survey: &'a Survey<'a>, seen: &'a Seen, f: &Function) -> u32
     requires seen { IsSeen survey.now seen.now }
     ensures { result ≡ up_to_limit (cost_at survey.now.names.now (unit_items survey.now) (before_of survey.now seen.now) (function (function_of f.now))) }
 {
-    if number_of(&seen.first, f.name).is_some() || seen.scope(survey).is_print(f.name) {
-        0
-    } else {
-        cost(survey, f)
+    if number_of(&seen.first, f.name).is_some() {
+        return 0;
     }
+    if seen.scope(survey).is_print(f.name) {
+        return 0;
+    }
+    cost(survey, f)
 }
 
 /// Whether the sum passes its limit with this cost.

@@ -78,7 +78,7 @@ fn judge_item(survey: &Survey, seen: &mut Seen, note: &mut Note) -> Result<(), M
     let length = survey.lengths[seen.number];
     let cost = cost_of(survey, seen, item);
     judge_front(survey, seen, item, length, cost, note);
-    seen.add(survey, cost)?;
+    seen.add(survey, item, cost)?;
     judge_back(survey, seen, item, length, note);
     Ok(())
 }

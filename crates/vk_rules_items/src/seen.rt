@@ -96,14 +96,14 @@ impl Seen {
     }
 
     /// Goes on behind the next item, which costs so much.
-    pub fn add(&mut self, survey: &Survey, cost: u32) -> Result<(), Memory>
+    pub fn add(&mut self, survey: &Survey, item: &Item, cost: u32) -> Result<(), Memory>
         requires within { self.old.number < length survey.now.items.now }
         requires seen { IsSeen survey.now self.old }
-        requires cost { (d : Item) → cost ≡ up_to_limit (cost_at survey.now.names.now (unit_items survey.now) (before_of survey.now self.old) (item_of (get_or survey.now.items.now self.old.number d))) }
+        requires item { item.now ≡ get_or survey.now.items.now self.old.number item.now }
+        requires cost { cost ≡ up_to_limit (cost_at survey.now.names.now (unit_items survey.now) (before_of survey.now self.old) (item_of item.now)) }
         ensures number { OnOk result (self.new.number ≡ self.old.number + 1) }
         ensures seen { OnOk result (IsSeen survey.now self.new) }
     {
-        let item = &survey.items[self.number];
         declare_next(&mut self.first, survey.items, self.number)?;
         note_definition(&mut self.defined, item, self.number)?;
         self.cost = self.cost.saturating_add(cost).min(MAX_COST + 1);
