@@ -30,6 +30,7 @@ scope_seen survey seen texts is = λ i. record {
 
 -- a name is declared where the table has a number for it
 pub declared_seen : (survey : Survey) (seen : Seen) → IsSeen survey seen → (id : NameId) → is_some (number_at seen.first.items id) ≡ is_some (first_declaration (before_of survey seen) id)
+unfolding first_declaration
 declared_seen survey seen is id = ap (λ (n : Option ℕ). is_some n) (is.first id) ∙ some_position (before_of survey seen) 0 id
   where
     pick : (b : Bool) (i : ℕ) (x : ItemTree) (p : Option ℕ) (q : Option ItemTree) → is_some p ≡ is_some q → is_some (cond b (Some i) p) ≡ is_some (cond b (Some x) q)
@@ -37,7 +38,6 @@ declared_seen survey seen is id = ap (λ (n : Option ℕ). is_some n) (is.first 
     pick false i x p q same = same
 
     some_position : (xs : List ItemTree) (i : ℕ) (id : NameId) → is_some (position_from (declares id) i xs) ≡ is_some (first_declaration xs id)
-    unfolding first_declaration
     some_position [] i id = refl
     some_position (x ∷ xs) i id = pick (declares id x) i x _ _ (some_position xs (i + 1) id)
 
@@ -64,13 +64,15 @@ function_defines f = ap (λ t. t && is_some f.body) (sym (named f.name))
 pub object_defines : (o : ObjectTree) → not o.outside ≡ defines o.name (object o)
 object_defines o = ap (λ t. t && not o.outside) (sym (named o.name))
 
-pub wrong_again : (survey : Survey) (seen : Seen) (id : NameId) (i : ItemTree) (r d b n : Bool) → IsSeen survey seen → r ≡ (d || (b && n))
-    → d ≡ disagrees (item_at survey.items.now seen.first.items id) i → b ≡ defines id i → n ≡ is_some (number_at seen.defined.items id)
+pub wrong_again : (survey : Survey) (seen : Seen) (id : NameId) (i : ItemTree) (first defined : Option ℕ) (r d b n : Bool) → IsSeen survey seen
+    → first ≡ number_at seen.first.items id → defined ≡ number_at seen.defined.items id → r ≡ (d || (b && n))
+    → d ≡ disagrees (option_and_then (λ n. option_map item_of (slice_get survey.items.now n)) first) i → b ≡ defines id i → n ≡ is_some defined
     → r ≡ is_wrong_again (before_of survey seen) id i
-wrong_again survey seen id i r d b n is told disagreed defined known =
+wrong_again survey seen id i first defined r d b n is at known told disagreed own again =
     told
-    ∙ ap₂ (λ (x y : Bool). x || y) (disagreed ∙ ap (λ o. disagrees o i) (first_seen survey seen is id))
-    (ap₂ (λ (x y : Bool). x && y) defined (known ∙ is.defined id))
+    ∙ ap₂ (λ (x y : Bool). x || y)
+    (disagreed ∙ ap (λ o. disagrees (option_and_then (λ n. option_map item_of (slice_get survey.items.now n)) o) i) at ∙ ap (λ o. disagrees o i) (first_seen survey seen is id))
+    (ap₂ (λ (x y : Bool). x && y) own (again ∙ ap (λ (o : Option ℕ). is_some o) known ∙ is.defined id))
 
 -- ---- definitions
 

@@ -1,5 +1,5 @@
 -- The expressions of an initialiser one after another.
-use Rattle.std.proofs.Common.{◌≡◌, ℕ, ◌+◌, Bool, ◌||◌, is_none, ap₂, ◌<◌, ◌≤◌, List, [], ◌∷◌, ◌++◌, length, map, take, get_or, Option, refl, sym, ap, ◌∙◌, arith}
+use Rattle.std.proofs.Common.{◌≡◌, ℕ, ◌+◌, Bool, ◌||◌, is_none, ap₂, ◌<◌, ◌≤◌, List, [], ◌∷◌, ◌++◌, length, map, take, get_or, Option, refl, sym, ap, ◌∙◌, arith, rules}
 use Rattle.std.proofs.lemmas.List.{append-nil, append_assoc, length-take-le, length-map, map-append, take_more, take_all}
 use Rattle.vk_ast.specs.declared.expressions.Expr.{Expr}
 use Rattle.vk_ast.specs.declared.expressions.ExprKind.{ExprKind}

@@ -42,13 +42,12 @@ none_same = refl
 abbrev pub rest_same : List ParamDecl → List ParamDecl → ℕ → Bool
 rest_same ps qs i = same_ctypes (types_of (drop i ps)) (types_of (drop i qs))
 
-pub next_same : (ps qs : List ParamDecl) (i : ℕ) (p q : ParamDecl) → i < length ps → length ps ≡ length qs → p ≡ get_or ps i p → q ≡ get_or qs i q
-    → rest_same ps qs i ≡ (same_ctype p.ctype q.ctype && rest_same ps qs (i + 1))
-next_same ps qs i p q below len here there =
-    ap₂ (λ (xs ys : List ParamDecl). same_ctypes (types_of xs) (types_of ys))
-    (drop_more ps i p below ∙ ap (λ x. x ∷ drop (i + 1) ps) (sym here))
-    (drop_more qs i q (omega (arith, below, len)) ∙ ap (λ x. x ∷ drop (i + 1) qs) (sym there))
-    ∙ cons_same p q (drop (i + 1) ps) (drop (i + 1) qs)
+pub next_same : (ps qs : List ParamDecl) (i : ℕ) (d e : ParamDecl) (same here : Bool) → i < length ps → length ps ≡ length qs
+    → here ≡ same_ctype (get_or ps i d).ctype (get_or qs i e).ctype → here ≡ same → rest_same ps qs i ≡ (same && rest_same ps qs (i + 1))
+next_same ps qs i d e same here below len told is =
+    ap₂ (λ (xs ys : List ParamDecl). same_ctypes (types_of xs) (types_of ys)) (drop_more ps i d below) (drop_more qs i e (omega (arith, below, len)))
+    ∙ cons_same (get_or ps i d) (get_or qs i e) (drop (i + 1) ps) (drop (i + 1) qs)
+    ∙ ap (λ b. b && rest_same ps qs (i + 1)) (sym told ∙ is)
 
 pub end_same : (ps qs : List ParamDecl) (i : ℕ) → length ps ≤ i → length ps ≡ length qs → rest_same ps qs i ≡ true
 end_same ps qs i past len =

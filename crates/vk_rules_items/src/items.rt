@@ -65,16 +65,21 @@ fn judge_back(survey: &Survey, seen: &Seen, item: &Item, length: Option<u32>, no
 }
 
 // Judges the next item.
-fn judge_item(survey: &Survey, seen: &mut Seen, note: &mut Note) -> Result<(), Memory>
+fn judge_item(
+    survey: &Survey,
+    seen: &mut Seen,
+    item: &Item,
+    note: &mut Note,
+) -> Result<(), Memory>
     requires within { seen.old.number < length survey.now.items.now }
+    requires item { item.now ≡ get_or survey.now.items.now seen.old.number item.now }
     requires survey { IsSurvey survey.now }
     requires seen { IsSeen survey.now seen.old }
     ensures number { OnOk result (seen.new.number ≡ seen.old.number + 1) }
     ensures seen { OnOk result (IsSeen survey.now seen.new) }
-    ensures noted { OnOk result ((d : Item) → note.new.first ≡ found (judged survey.now) note.old.first
-        (item_part survey.now.names.now (before_of survey.now seen.old) (item_of (get_or survey.now.items.now seen.old.number d)))) }
+    ensures noted { OnOk result (note.new.first ≡ found (judged survey.now) note.old.first
+        (item_part survey.now.names.now (before_of survey.now seen.old) (item_of item.now))) }
 {
-    let item = &survey.items[seen.number];
     let length = survey.lengths[seen.number];
     let cost = cost_of(survey, seen, item);
     judge_front(survey, seen, item, length, cost, note);
@@ -96,8 +101,8 @@ pub fn judge_items(
 {
     let survey = survey_of(alloc, target, names, items)?;
     let mut seen = Seen::nothing(alloc, &survey)?;
-    for _ in items {
-        judge_item(&survey, &mut seen, note)?;
+    for item in items {
+        judge_item(&survey, &mut seen, item, note)?;
     }
     Ok(())
 }

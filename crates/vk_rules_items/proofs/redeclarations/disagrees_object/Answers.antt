@@ -13,5 +13,4 @@ agrees_object-requires-clause-first c =
 
 pub returns : goal.returns
 returns c =
-    disagrees_at c.args.survey.now.items.now c.in-Some.number c.index-survey-number.result (object (object_of c.args.o.now)) _ _ c.in-Some.is c.if-number-survey.false c.index-survey-number.is
-    ?
+    let told = c.agrees_object.ensures in ?
