@@ -1,8 +1,8 @@
 -- The expressions of an initialiser one after another.
-use Rattle.std.proofs.Common.{◌≡◌, ℕ, ◌+◌, Bool, ◌||◌, is_none, ap₂, ◌<◌, ◌≤◌, List, [], ◌∷◌, ◌++◌, length, map, take, get_or, Option, refl, sym, ap, ◌∙◌, arith, rules}
+use Rattle.std.proofs.Common.{◌≡◌, ℕ, ◌+◌, Bool, ◌||◌, is_none, ap₂, ◌<◌, ◌≤◌, List, [], ◌∷◌, ◌++◌, length, map, take, get_or, Option, refl, sym, ap, ◌∙◌, arith}
 use Rattle.std.proofs.lemmas.List.{append-nil, append_assoc, length-take-le, length-map, map-append, take_more, take_all}
 use Rattle.vk_ast.specs.declared.expressions.Expr.{Expr}
-use Rattle.vk_ast.specs.declared.expressions.ExprKind.{ExprKind}
+use Rattle.vk_ast.specs.declared.expressions.ExprKind.{ExprKind, Int, Name, Index', Deref', Addr', Unary', Binary', Cond', Cast', Call'}
 use Rattle.vk_ast.specs.Tree.{Tree, expr_of, kind_of}
 use Rattle.vk_ast.specs.Units.{ObjectTree}
 use Rattle.vk_rules_book.specs.declared.contexts.Role.TheVariants as role
@@ -37,7 +37,7 @@ pub next_initial : (unit : Subject) (s : Scope) (o : ObjectTree) (es : List Expr
 next_initial unit s o es k e old before constant next lt is told judged noted =
     let len : 0 + length (map expr_of (take k es)) ≡ k = omega (arith, length-map (take k es) expr_of, length-take-le k es (omega (arith, lt))) in
     let more : map expr_of (take (k + 1) es) ≡ map expr_of (take k es) ++ expr_of e ∷ [] =
-        ap (map expr_of) (take_more es k e lt ∙ ap (λ x. take k es ++ x ∷ []) (sym is)) ∙ map-append expr_of (take k es) (e ∷ []) in
+    ap (map expr_of) (take_more es k e lt ∙ ap (λ x. take k es ++ x ∷ []) (sym is)) ∙ map-append expr_of (take k es) (e ∷ []) in
     noted ∙ ap (λ o'. found unit o' (visits_of at_file_scope s role.Value (expr_of e))) (judged ∙ ap (λ b. first_among b (initial_faults o k (expr_of e))) told)
     ∙ sym (ap (λ xs. found unit old (initial_visits s o 0 xs)) more
     ∙ ap (found unit old) (visits_push s o 0 (map expr_of (take k es)) (expr_of e) ∙ ap (λ n. initial_visits s o 0 (map expr_of (take k es)) ++ (initial o n (expr_of e) ∷ visits_of at_file_scope s role.Value (expr_of e))) len)
@@ -51,10 +51,28 @@ all_initials unit s o es k old now past told = told ∙ ap (λ xs. found unit ol
 -- ---- one expression
 
 kind_line : (kind : ExprKind) (l k : ℕ) → line_of (kind_of kind l k) ≡ l
-kind_line kind l k = search rules
+kind_line (Int a b) l k = refl
+kind_line (Name a) l k = refl
+kind_line (Index' a b c d e f g h) l k = refl
+kind_line (Deref' a b c d) l k = refl
+kind_line (Addr' a b c d) l k = refl
+kind_line (Unary' a b c d e) l k = refl
+kind_line (Binary' a b c d e f g h i) l k = refl
+kind_line (Cond' a b c d e f g h i j m n) l k = refl
+kind_line (Cast' a b c d e) l k = refl
+kind_line (Call' id shape row) l k = refl
 
 kind_token : (kind : ExprKind) (l k : ℕ) → token_of (kind_of kind l k) ≡ k
-kind_token kind l k = search rules
+kind_token (Int a b) l k = refl
+kind_token (Name a) l k = refl
+kind_token (Index' a b c d e f g h) l k = refl
+kind_token (Deref' a b c d) l k = refl
+kind_token (Addr' a b c d) l k = refl
+kind_token (Unary' a b c d e) l k = refl
+kind_token (Binary' a b c d e f g h i) l k = refl
+kind_token (Cond' a b c d e f g h i j m n) l k = refl
+kind_token (Cast' a b c d e) l k = refl
+kind_token (Call' id shape row) l k = refl
 
 pub judged_initial : (o : ObjectTree) (n : ℕ) (e : Expr) (len : Option ℕ) (wrong : Bool) (fault : Fault) (old new : Option Fault) → len ≡ length_of o
     → wrong ≡ (is_none (constant_of (expr_of e)) || is_past n len) → fault ≡ fault_at e.line e.token C11 → new ≡ first_among old (when wrong fault)

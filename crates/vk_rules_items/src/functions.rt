@@ -3,9 +3,8 @@
 ghost use Rattle.std.specs.Prelude.{◌≡◌, ◌&&◌, ◌||◌};
 ghost use Rattle.vk_ast.specs.Units.{function, function_of};
 ghost use Rattle.vk_rules_book.specs.Faults.{first_among};
-ghost use Rattle.vk_rules_book.specs.Items.{cost_at, is_wrong_main, is_wrong_print, item_faults};
+ghost use Rattle.vk_rules_book.specs.Items.{is_wrong_main, is_wrong_print, item_faults};
 ghost use Rattle.vk_rules_book.specs.Scopes.{is_main, is_print};
-ghost use Rattle.vk_rules_items.specs.Inner.Counts.{up_to_limit};
 ghost use Rattle.vk_rules_items.specs.Inner.Known.{IsSeen, IsSurvey, before_of, unit_items};
 
 use crate::costs::passes;
@@ -26,12 +25,11 @@ fn is_wrong_name(scope: &Scopes, f: &Function) -> bool
     (scope.is_print(f.name) && is_wrong_print(f)) || (scope.is_main(f.name) && is_wrong_main(f))
 }
 
-/// Judges a declaration of a function, which adds this cost.
+/// Judges a declaration of a function.
 #[tactic(auto, using(vk_rules_book::proofs::Noting::among_append), unfolding(vk_rules_book::specs::Items::item_faults))]
-pub fn judge_function(survey: &Survey, seen: &Seen, f: &Function, cost: u32, note: &mut Note)
+pub fn judge_function(survey: &Survey, seen: &Seen, f: &Function, note: &mut Note)
     requires survey { IsSurvey survey.now }
     requires seen { IsSeen survey.now seen.now }
-    requires cost { cost ≡ up_to_limit (cost_at survey.now.names.now (unit_items survey.now) (before_of survey.now seen.now) (function (function_of f.now))) }
     ensures { note.new.first ≡ first_among note.old.first (item_faults survey.now.names.now (unit_items survey.now) (before_of survey.now seen.now) (function (function_of f.now))) }
 {
     let scope = seen.scope(survey);
@@ -48,7 +46,7 @@ pub fn judge_function(survey: &Survey, seen: &Seen, f: &Function, cost: u32, not
         fault_at(f.line, f.token, UnitRule::C16),
     );
     note.add(
-        passes(seen, cost),
+        passes(survey, seen, f),
         fault_at(f.line, f.token, UnitRule::C17),
     );
     note.add(is_too_large(f), fault_at(f.line, f.token, UnitRule::C18));

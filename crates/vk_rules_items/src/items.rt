@@ -2,14 +2,12 @@
 
 ghost use Rattle.std.specs.Prelude.{◌≡◌, ◌<◌, ◌+◌, [], map, length, OnOk, get_or};
 ghost use Rattle.vk_ast.specs.Units.{item_of};
-ghost use Rattle.vk_rules_book.specs.Items.{cost_at};
 ghost use Rattle.vk_rules_book.specs.Noting.{found};
 ghost use Rattle.vk_rules_book.specs.Visits.{along, item_part};
-ghost use Rattle.vk_rules_items.specs.Inner.Counts.{length_of_item, up_to_limit};
+ghost use Rattle.vk_rules_items.specs.Inner.Counts.{length_of_item};
 ghost use Rattle.vk_rules_items.specs.Inner.Known.{IsSeen, IsSurvey, before_of, judged, unit_items};
 ghost use Rattle.vk_rules_items.specs.Inner.Parts.{back_part, front_part};
 
-use crate::costs::cost_at;
 use crate::functions::judge_function;
 use crate::objects::{judge_initialiser, judge_length, judge_object};
 use crate::seen::Seen;
@@ -20,29 +18,15 @@ use vk_kinds::Target;
 use vk_rules_names::{Note, fault_with};
 use vk_unit_rules::UnitRule;
 
-// What the next item adds to the sum of costs.
-fn cost_of(survey: &Survey, seen: &Seen, item: &Item) -> u32
-    requires survey { IsSurvey survey.now }
-    requires seen { IsSeen survey.now seen.now }
-    ensures { result ≡ up_to_limit (cost_at survey.now.names.now (unit_items survey.now) (before_of survey.now seen.now) (item_of item.now)) }
-{
-    match item {
-        Item::Function(f) => cost_at(survey, seen, f),
-        Item::Object(_) => 0,
-        Item::Lost(_) => 0,
-    }
-}
-
 // Judges the next item, and the length of an array, before it is declared.
-fn judge_front(survey: &Survey, seen: &Seen, item: &Item, length: Option<u32>, cost: u32, note: &mut Note)
+fn judge_front(survey: &Survey, seen: &Seen, item: &Item, length: Option<u32>, note: &mut Note)
     requires survey { IsSurvey survey.now }
     requires seen { IsSeen survey.now seen.now }
     requires length { length ≡ length_of_item (item_of item.now) }
-    requires cost { cost ≡ up_to_limit (cost_at survey.now.names.now (unit_items survey.now) (before_of survey.now seen.now) (item_of item.now)) }
     ensures { note.new.first ≡ found (judged survey.now) note.old.first (front_part survey.now.names.now (before_of survey.now seen.now) (item_of item.now)) }
 {
     match item {
-        Item::Function(f) => judge_function(survey, seen, f, cost, note),
+        Item::Function(f) => judge_function(survey, seen, f, note),
         Item::Object(o) => {
             judge_object(survey, seen, o, length, note);
             judge_length(&seen.scope(survey), &o.array, note);
@@ -65,12 +49,7 @@ fn judge_back(survey: &Survey, seen: &Seen, item: &Item, length: Option<u32>, no
 }
 
 // Judges the next item.
-fn judge_item(
-    survey: &Survey,
-    seen: &mut Seen,
-    item: &Item,
-    note: &mut Note,
-) -> Result<(), Memory>
+fn judge_item(survey: &Survey, seen: &mut Seen, item: &Item, note: &mut Note) -> Result<(), Memory>
     requires within { seen.old.number < length survey.now.items.now }
     requires item { item.now ≡ get_or survey.now.items.now seen.old.number item.now }
     requires survey { IsSurvey survey.now }
@@ -81,9 +60,8 @@ fn judge_item(
         (item_part survey.now.names.now (before_of survey.now seen.old) (item_of item.now))) }
 {
     let length = survey.lengths[seen.number];
-    let cost = cost_of(survey, seen, item);
-    judge_front(survey, seen, item, length, cost, note);
-    seen.add(survey, item, cost)?;
+    judge_front(survey, seen, item, length, note);
+    seen.add(survey, item)?;
     judge_back(survey, seen, item, length, note);
     Ok(())
 }

@@ -4,13 +4,12 @@ ghost use Rattle.std.specs.Prelude.{◌≡◌, ◌<◌, ◌+◌, ◌&&◌, lengt
 ghost use Rattle.std.specs.Option.{option_or};
 ghost use Rattle.vk_ast.specs.declared.names.NameId.{NameId};
 ghost use Rattle.vk_ast.specs.Units.{item_of};
-ghost use Rattle.vk_rules_book.specs.Items.{cost_at, defines};
+ghost use Rattle.vk_rules_book.specs.Items.{defines};
 ghost use Rattle.vk_rules_book.specs.Scopes.{file_scope, same_name};
 ghost use Rattle.vk_rules_names.specs.Seen.{number_at, scope_of, unit_in};
-ghost use Rattle.vk_rules_items.specs.Inner.Known.{IsSeen, before_of, judged, unit_items};
-ghost use Rattle.vk_rules_items.specs.Inner.Counts.{up_to_limit};
+ghost use Rattle.vk_rules_items.specs.Inner.Known.{IsSeen, IsSurvey, before_of, judged};
 
-use crate::costs::MAX_COST;
+use crate::costs::{MAX_COST, cost_of};
 use crate::survey::Survey;
 use crate::tables::keep;
 use std::alloc::Global;
@@ -95,15 +94,16 @@ impl Seen {
         place.with(&[], 0)
     }
 
-    /// Goes on behind the next item, which costs so much.
-    pub fn add(&mut self, survey: &Survey, item: &Item, cost: u32) -> Result<(), Memory>
+    /// Goes on behind the next item.
+    pub fn add(&mut self, survey: &Survey, item: &Item) -> Result<(), Memory>
         requires within { self.old.number < length survey.now.items.now }
+        requires survey { IsSurvey survey.now }
         requires seen { IsSeen survey.now self.old }
         requires item { item.now ≡ get_or survey.now.items.now self.old.number item.now }
-        requires cost { cost ≡ up_to_limit (cost_at survey.now.names.now (unit_items survey.now) (before_of survey.now self.old) (item_of item.now)) }
         ensures number { OnOk result (self.new.number ≡ self.old.number + 1) }
         ensures seen { OnOk result (IsSeen survey.now self.new) }
     {
+        let cost = cost_of(survey, self, item);
         declare_next(&mut self.first, survey.items, self.number)?;
         note_definition(&mut self.defined, item, self.number)?;
         self.cost = self.cost.saturating_add(cost).min(MAX_COST + 1);

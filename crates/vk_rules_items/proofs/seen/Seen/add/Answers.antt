@@ -10,6 +10,6 @@ returns-clause-seen c = record {
   defined = λ id.
       next_defined c.args.survey.now.items.now c.args.self.now.number _ _ id _ _ c.requires.within c.requires.item (c.requires.seen.defined id) (c.in_ok-note_definition.ensures id);
   cost =
-      next_cost c.args.survey.now.names.now (unit_items c.args.survey.now) c.args.survey.now.items.now c.args.self.now.number _ c.args.self.now.cost _ c.args.cost c.requires.within c.requires.item c.requires.seen.cost c.requires.cost
+      next_cost c.args.survey.now.names.now (unit_items c.args.survey.now) c.args.survey.now.items.now c.args.self.now.number _ c.args.self.now.cost _ _ c.requires.within c.requires.item c.requires.seen.cost c.cost_of-cost.ensures
       (omega (arith, c.saturating_add.ensures, c.min-self.ensures));
 }
