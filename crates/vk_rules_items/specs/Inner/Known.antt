@@ -1,5 +1,5 @@
 -- What is known of a unit as a whole, and of the items before one.
-use Rattle.std.specs.Prelude.{◌≡◌, ℕ, ◌≤◌, Bool, List, [], map, take, length, is_some}
+use Rattle.std.specs.Prelude.{◌≡◌, List, [], map, take, is_some}
 use Rattle.std.specs.List.{list_any}
 use Rattle.std.specs.Option.{option_map}
 use Rattle.vk_ast.specs.declared.names.NameId.{NameId}

@@ -1,8 +1,8 @@
-use Rattle.std.proofs.Common.{ℕ, ◌+◌, ◌≡◌, ◌<◌, List, get_or, length, sym, ap, ◌∙◌, arith}
+use Rattle.std.proofs.Common.{◌+◌, ◌≡◌, List, get_or, length, sym, ap, ◌∙◌, arith}
 use Rattle.vk_ast.specs.declared.items.Item.{Item}
 use Rattle.vk_rules_book.proofs.Noting.{found_none}
 use Rattle.vk_rules_items.specs.Inner.Known.{judged}
-use Rattle.vk_rules_items.proofs.Walk.{all_noted, next_noted}
+use Rattle.vk_rules_items.proofs.Walk.{next_noted}
 use Rattle.vk_rules_items.proofs.items.judge_items.Goals as goal
 
 pub loop-item-init : goal.loop-item-init
