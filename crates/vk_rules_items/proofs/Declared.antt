@@ -16,7 +16,7 @@ use Rattle.vk_rules_items.specs.Inner.Known.{IsSeen, before_of}
 
 -- ---- first declarations
 
-pub first_seen : (survey : Survey) (seen : Seen) → IsSeen survey seen → (id : NameId) → item_at survey.items.now seen.first.items id ≡ first_declaration (before_of survey seen) id
+first_seen : (survey : Survey) (seen : Seen) → IsSeen survey seen → (id : NameId) → item_at survey.items.now seen.first.items id ≡ first_declaration (before_of survey seen) id
 first_seen survey seen is = has_first survey.items.now seen.first.items seen.number is.first
 
 -- what names mean at file scope

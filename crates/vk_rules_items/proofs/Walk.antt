@@ -75,9 +75,3 @@ next_noted unit texts items k n x old before next lt is same told noted =
     ∙ sym (ap (λ xs. found unit old (along (item_part texts) [] xs)) (grown items k x lt is)
     ∙ ap (found unit old) (along_push (item_part texts) [] (map item_of (take k items)) (item_of x))
     ∙ found_append unit old (along (item_part texts) [] (map item_of (take k items))) _)
-
-pub all_noted : (survey : Survey) (unit : Subject) (k : ℕ) (old now : Option Fault) → judged survey ≡ unit → length survey.items.now ≤ k
-    → now ≡ found (judged survey) old (along (item_part survey.names.now) [] (map item_of (take k survey.items.now))) → now ≡ found unit old (along (item_part unit.texts) [] unit.items)
-all_noted survey unit k old now same past told =
-    told ∙ ap (λ xs. found (judged survey) old (along (item_part survey.names.now) [] (map item_of xs))) (take_all k survey.items.now past)
-    ∙ ap (λ (u : Subject). found u old (along (item_part u.texts) [] u.items)) same
