@@ -1,11 +1,9 @@
 -- Sums of costs.
-use Rattle.std.proofs.Common.{◌≡◌, ℕ, zero, suc, ◌+◌, ◌*◌, ◌-◌, ◌^◌, ◌<◌, ◌≤◌, ◌⊎◌, inl, inr, ◌&&◌, ◌||◌, min, nat_lt, Bool, true, false, cond, List, [], ◌∷◌, ◌++◌, map, length, take, get_or, is_some, refl, sym, ap, ap₂, ◌∙◌, arith}
-use Rattle.std.proofs.lemmas.Bool.{cases_Bool}
-use Rattle.std.proofs.lemmas.Bool.Decides.{nat_tests}
+use Rattle.std.proofs.Common.{◌≡◌, ℕ, ◌+◌, ◌<◌, ◌||◌, Bool, true, false, cond, List, [], ◌∷◌, ◌++◌, map, length, take, get_or, is_some, refl, sym, ap, ap₂, ◌∙◌, arith}
 use Rattle.std.proofs.lemmas.List.{append-nil, append_assoc}
 use Rattle.vk_ast.specs.declared.items.Item.{Item}
 use Rattle.vk_ast.specs.Units.{FunctionTree, ItemTree, function, item_of}
-use Rattle.vk_rules_book.specs.Items.{cost, cost_at, costs, weight}
+use Rattle.vk_rules_book.specs.Items.{cost, cost_at, costs}
 use Rattle.vk_rules_book.specs.Scopes.{first_declaration, is_print}
 use Rattle.vk_rules_names.proofs.Tables.{grown}
 use Rattle.vk_rules_items.specs.Inner.Counts.{up_to_limit}

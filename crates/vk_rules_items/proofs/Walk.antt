@@ -1,6 +1,5 @@
 -- Items one after another.
-use Rattle.std.proofs.Common.{◌≡◌, ℕ, ◌+◌, ◌<◌, ◌≤◌, List, [], ◌∷◌, ◌++◌, length, map, take, get_or, Option, refl, sym, ap, ap₂, ◌∙◌}
-use Rattle.std.proofs.lemmas.List.{take_all}
+use Rattle.std.proofs.Common.{◌≡◌, ℕ, ◌+◌, ◌<◌, List, [], ◌∷◌, ◌++◌, length, map, take, get_or, Option, refl, sym, ap, ap₂, ◌∙◌}
 use Rattle.vk_ast.specs.declared.items.Item.{Item}
 use Rattle.vk_ast.specs.Directives.{DirectiveTree}
 use Rattle.vk_ast.specs.Units.{FunctionTree, ObjectTree, ItemTree, function, object, lost_line, item_of}
@@ -15,8 +14,6 @@ use Rattle.vk_rules_book.specs.Visits.{along, item, item_part, length_visits}
 use Rattle.vk_rules_book.proofs.Along.{along_push}
 use Rattle.vk_rules_book.proofs.Noting.{found_append, found_first, found_none, found_one}
 use Rattle.vk_rules_names.proofs.Tables.{grown}
-use Rattle.vk_rules_items.specs.declared.survey.Survey.{Survey}
-use Rattle.vk_rules_items.specs.Inner.Known.{judged}
 use Rattle.vk_rules_items.specs.Inner.Parts.{front_part, back_part}
 
 -- an item is visited in two parts
