@@ -74,13 +74,7 @@ fn align_said(id: NameId, says: &ClauseKind) -> Option<u32>
     ensures { result ≡ align_said id (says_of says.now) }
 {
     match says {
-        ClauseKind::Aligned(names, e) => {
-            if lists(names, id) {
-                alignment(e)
-            } else {
-                None
-            }
-        }
+        ClauseKind::Aligned(names, e) => { if lists(names, id) { alignment(e) } else { None } }
         ClauseKind::Simdlen(_)
         | ClauseKind::Uniform(_)
         | ClauseKind::Linear(_, _, _)

@@ -11,7 +11,9 @@ ghost use Rattle.vk_rules_book.specs.Directives.{is_wrong_step};
 ghost use Rattle.vk_rules_signatures.specs.Inner.Steps.{FitsStep, step_seen};
 
 use crate::params::{is_integer_named, number_of, pointee_of};
-use vk_ast::{Clause, ClauseKind, Directive, Expr, ExprKind, Function, NameId, ParamDecl, PlacedName};
+use vk_ast::{
+    Clause, ClauseKind, Directive, Expr, ExprKind, Function, NameId, ParamDecl, PlacedName,
+};
 use vk_kinds::Step;
 use vk_numbers::constant_of;
 use vk_types::{Ty, size};

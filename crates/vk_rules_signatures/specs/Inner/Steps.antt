@@ -1,5 +1,5 @@
 -- Words of the code's contracts.
-use Rattle.std.specs.Prelude.{ℕ, ◌≤◌, List, Option}
+use Rattle.std.specs.Prelude.{ℕ, ◌≤◌}
 use Rattle.vk_rules_book.specs.Signatures.{StepTree, constant, by_parameter, no_step}
 use Rattle.vk_rules_signatures.specs.declared.steps.DirectiveStep.{DirectiveStep}
 use Rattle.vk_rules_signatures.specs.declared.steps.DirectiveStep.TheVariants.{Constant, Parameter, None}
