@@ -1,0 +1,39 @@
+-- What tables by the numbers of names say.
+use Rattle.std.specs.Prelude.{◌≡◌, ℕ, Bool, true, false, cond, ◌&&◌, List, [], ◌∷◌, Option, Some, None, slice_get, unwrap_or}
+use Rattle.std.specs.Option.{option_and_then, option_map}
+use Rattle.std.specs.List.{list_any}
+use Rattle.vk_kinds.specs.declared.heads.CType.{CType}
+use Rattle.vk_ast.specs.declared.names.NameId.{NameId}
+use Rattle.vk_ast.specs.declared.items.ParamDecl.{ParamDecl}
+use Rattle.vk_rules_book.specs.declared.lists.Entry.{Entry}
+use Rattle.vk_rules_book.specs.Directives.{is_listed, is_uniform_list}
+use Rattle.vk_rules_book.specs.Scopes.{same_name}
+use Rattle.vk_rules_book.specs.Signatures.{param_of}
+use Rattle.vk_rules_directives.specs.declared.names.NameSet.{NameSet}
+
+-- the set has the name
+abbrev pub has : NameSet → NameId → Bool
+has set id = unwrap_or (slice_get set.marks.items id.0) false
+
+-- the set has exactly the names of this test
+abbrev pub Holds : NameSet → (NameId → Bool) → Type 0
+Holds set test = (id : NameId) → has set id ≡ test id
+
+abbrev pub nothing : NameId → Bool
+nothing id = false
+
+-- the type that the table has for a name
+abbrev pub type_at : List (Option CType) → NameId → Option CType
+type_at types id = option_and_then (λ t. t) (slice_get types id.0)
+
+-- the type of the first of these parameters with this name
+abbrev pub type_of_param : List ParamDecl → NameId → Option CType
+type_of_param params id = option_map (λ (p : ParamDecl). p.ctype) (param_of params id)
+
+-- the table has the type of each parameter
+abbrev pub AreTypes : List (Option CType) → List ParamDecl → Type 0
+AreTypes types params = (id : NameId) → type_at types id ≡ type_of_param params id
+
+-- these entries list the name as uniform
+abbrev pub lists_uniform : List Entry → NameId → Bool
+lists_uniform entries id = list_any (λ e. is_uniform_list e.listed && same_name e.name id) entries

@@ -1,0 +1,6 @@
+//! The rules on directives of functions.
+#![tactic(auto)]
+
+pub mod entries;
+pub mod clauses;
+pub mod names;
