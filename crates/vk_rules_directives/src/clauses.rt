@@ -1,3 +1,189 @@
 // The rules on clauses: D1, D4 to D7, D9 to D11, and C16 of the names in them.
 
-ghost use Rattle.std.specs.Prelude.{◌≡◌};
+ghost use Rattle.std.specs.Prelude.{◌≡◌, List, not, map, length};
+ghost use Rattle.std.specs.List.{list_any};
+ghost use Rattle.std.specs.Option.{option_map};
+ghost use Rattle.vk_ast.specs.Directives.{ClauseTree, clause_of, directive_of, says_of};
+ghost use Rattle.vk_ast.specs.Tree.{expr_of};
+ghost use Rattle.vk_rules_book.specs.Faults.{first_among};
+ghost use Rattle.vk_rules_book.specs.Directives.{has_modifier, has_wrong_alignment, is_branch, is_of_references, is_other, is_power_from, is_simdlen, is_unknown, is_wrong_alignment, is_wrong_simdlen, long_name_faults, names_in};
+ghost use Rattle.vk_rules_directives.specs.Inner.Tests.{said_faults_by};
+
+use crate::entries::directive_fault;
+use vk_ast::{Clause, ClauseKind, Directive, Expr, Modifier, PlacedName};
+use vk_numbers::constant_to;
+use vk_rules_names::{Note, Place, fault_at};
+use vk_unit_rules::UnitRule;
+
+fn is_other(says: &ClauseKind) -> bool
+    ensures { result ≡ is_other (says_of says.now) }
+{
+    matches!(says, ClauseKind::Other)
+}
+
+pub(crate) fn is_simdlen(says: &ClauseKind) -> bool
+    ensures { result ≡ is_simdlen (says_of says.now) }
+{
+    matches!(says, ClauseKind::Simdlen(_))
+}
+
+pub(crate) fn is_branch(says: &ClauseKind) -> bool
+    ensures { result ≡ is_branch (says_of says.now) }
+{
+    matches!(says, ClauseKind::Inside | ClauseKind::Outside)
+}
+
+// Whether it is a power of two from `least`, which is a power of two up to 65536, to 65536.
+#[tactic(auto, unfolding(vk_rules_book::specs::Directives::powers))]
+fn is_power_from(least: u32, n: Option<u32>) -> bool
+    ensures { result ≡ is_power_from least n }
+{
+    match n {
+        Some(n) => {
+            least <= n
+                && matches!(
+                    n,
+                    1 | 2
+                        | 4
+                        | 8
+                        | 16
+                        | 32
+                        | 64
+                        | 128
+                        | 256
+                        | 512
+                        | 1024
+                        | 2048
+                        | 4096
+                        | 8192
+                        | 16384
+                        | 32768
+                        | 65536
+                )
+        }
+        None => false,
+    }
+}
+
+fn is_wrong_simdlen(says: &ClauseKind) -> bool
+    ensures { result ≡ is_wrong_simdlen (says_of says.now) }
+{
+    match says {
+        ClauseKind::Simdlen(e) => !is_power_from(2, constant_to(256, e)),
+        ClauseKind::Uniform(_)
+        | ClauseKind::Aligned(_, _)
+        | ClauseKind::Linear(_, _, _)
+        | ClauseKind::Inside
+        | ClauseKind::Outside
+        | ClauseKind::Other => false,
+    }
+}
+
+fn is_wrong_alignment(e: &Option<Expr>) -> bool
+    ensures { result ≡ is_wrong_alignment (option_map expr_of e.now) }
+{
+    match e {
+        Some(e) => !is_power_from(1, constant_to(65536, e)),
+        None => false,
+    }
+}
+
+fn has_wrong_alignment(says: &ClauseKind) -> bool
+    ensures { result ≡ has_wrong_alignment (says_of says.now) }
+{
+    match says {
+        ClauseKind::Aligned(_, e) => is_wrong_alignment(e),
+        ClauseKind::Simdlen(_)
+        | ClauseKind::Uniform(_)
+        | ClauseKind::Linear(_, _, _)
+        | ClauseKind::Inside
+        | ClauseKind::Outside
+        | ClauseKind::Other => false,
+    }
+}
+
+// A modifier that is none of the three, or two modifiers or steps.
+fn has_unknown_modifier(says: &ClauseKind) -> bool
+    ensures { result ≡ has_modifier is_unknown (says_of says.now) }
+{
+    match says {
+        ClauseKind::Linear(_, Some(modifier), _) => matches!(*modifier, Modifier::Other),
+        _ => false,
+    }
+}
+
+// `ref` and `uval`
+fn has_reference_modifier(says: &ClauseKind) -> bool
+    ensures { result ≡ has_modifier is_of_references (says_of says.now) }
+{
+    match says {
+        ClauseKind::Linear(_, Some(modifier), _) => {
+            matches!(*modifier, Modifier::Ref | Modifier::Uval)
+        }
+        _ => false,
+    }
+}
+
+// Judges what a clause says, by whether a `simdlen` and a branch clause stand before it and whether its step is wrong.
+#[tactic(auto, using(vk_rules_book::proofs::Noting::among_append))]
+fn judge_form(
+    has_simdlen: bool,
+    has_branch: bool,
+    wrong_step: bool,
+    d: &Directive,
+    c: &Clause,
+    note: &mut Note,
+)
+    ensures { note.new.first ≡ first_among note.old.first (said_faults_by has_simdlen has_branch wrong_step (directive_of d.now) (clause_of c.now)) }
+{
+    let says = &c.kind;
+    note.add(is_other(says), directive_fault(d, c.token, UnitRule::D1));
+    note.add(
+        is_simdlen(says) && has_simdlen,
+        directive_fault(d, c.token, UnitRule::D4),
+    );
+    note.add(
+        is_branch(says) && has_branch,
+        directive_fault(d, c.token, UnitRule::D5),
+    );
+    note.add(wrong_step, directive_fault(d, c.token, UnitRule::D6));
+    note.add(
+        has_unknown_modifier(says),
+        directive_fault(d, c.token, UnitRule::D7),
+    );
+    note.add(
+        is_wrong_simdlen(says),
+        directive_fault(d, c.token, UnitRule::D9),
+    );
+    note.add(
+        has_wrong_alignment(says),
+        directive_fault(d, c.token, UnitRule::D10),
+    );
+    note.add(
+        has_reference_modifier(says),
+        directive_fault(d, c.token, UnitRule::D11),
+    );
+}
+
+// Judges the names in a clause.
+fn judge_long_names(place: &Place, names: &[PlacedName], note: &mut Note)
+    ensures { note.new.first ≡ first_among note.old.first (long_name_faults place.now.names.now names.now) }
+{
+    for n in names {
+        let scope = place.with(&[], 0);
+        note.add(
+            scope.is_long(n.name),
+            fault_at(n.line, n.token, UnitRule::C16),
+        );
+    }
+}
+
+// Judges the names in a clause that has a form.
+#[tactic(auto, using(vk_rules_book::proofs::Noting::among_none))]
+fn judge_names(place: &Place, c: &Clause, note: &mut Note)
+    ensures { note.new.first ≡ first_among note.old.first (long_name_faults place.now.names.now (names_in (clause_of c.now))) }
+{
+    if !is_other(&c.kind) {
+        judge_long_names(place, &c.names, note);
+    }
+}

@@ -1,6 +1,6 @@
 -- What tables by the numbers of names say.
 use Rattle.std.specs.Prelude.{◌≡◌, ℕ, Bool, true, false, cond, ◌&&◌, List, [], ◌∷◌, Option, Some, None, slice_get, unwrap_or}
-use Rattle.std.specs.Option.{option_and_then, option_map}
+use Rattle.std.specs.Option.{option_map}
 use Rattle.std.specs.List.{list_any}
 use Rattle.vk_kinds.specs.declared.heads.CType.{CType}
 use Rattle.vk_ast.specs.declared.names.NameId.{NameId}
@@ -24,7 +24,7 @@ nothing id = false
 
 -- the type that the table has for a name
 abbrev pub type_at : List (Option CType) → NameId → Option CType
-type_at types id = option_and_then (λ t. t) (slice_get types id.0)
+type_at types id = unwrap_or (slice_get types id.0) None
 
 -- the type of the first of these parameters with this name
 abbrev pub type_of_param : List ParamDecl → NameId → Option CType
