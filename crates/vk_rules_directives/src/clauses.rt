@@ -5,7 +5,9 @@ ghost use Rattle.std.specs.List.{list_any};
 ghost use Rattle.std.specs.Option.{option_map};
 ghost use Rattle.vk_ast.specs.Directives.{ClauseTree, clause_of, directive_of, says_of};
 ghost use Rattle.vk_ast.specs.Tree.{expr_of};
-ghost use Rattle.vk_rules_book.specs.Faults.{first_among};
+ghost use Rattle.vk_unit_rules.specs.declared.rules.UnitRule.TheVariants.{C16};
+ghost use Rattle.vk_rules_book.specs.Faults.{fault_at, first_among, when};
+ghost use Rattle.vk_rules_book.specs.Scopes.{is_long};
 ghost use Rattle.vk_rules_book.specs.Directives.{has_modifier, has_wrong_alignment, is_branch, is_of_references, is_other, is_power_from, is_simdlen, is_unknown, is_wrong_alignment, is_wrong_simdlen, long_name_faults, names_in};
 ghost use Rattle.vk_rules_directives.specs.Inner.Tests.{said_faults_by};
 
@@ -165,16 +167,23 @@ fn judge_form(
     );
 }
 
+// Judges a name in a clause.
+fn judge_long_name(place: &Place, n: PlacedName, note: &mut Note)
+    ensures { note.new.first ≡ first_among note.old.first (when (is_long place.now.names.now n.name) (fault_at n.line n.token C16)) }
+{
+    let scope = place.with(&[], 0);
+    note.add(
+        scope.is_long(n.name),
+        fault_at(n.line, n.token, UnitRule::C16),
+    );
+}
+
 // Judges the names in a clause.
 fn judge_long_names(place: &Place, names: &[PlacedName], note: &mut Note)
     ensures { note.new.first ≡ first_among note.old.first (long_name_faults place.now.names.now names.now) }
 {
     for n in names {
-        let scope = place.with(&[], 0);
-        note.add(
-            scope.is_long(n.name),
-            fault_at(n.line, n.token, UnitRule::C16),
-        );
+        judge_long_name(place, *n, note);
     }
 }
 

@@ -1,16 +1,23 @@
 // The rules on names that clauses list: D2, D3, D8, D13 and D14.
 
-ghost use Rattle.std.specs.Prelude.{◌≡◌};
+ghost use Rattle.std.specs.Prelude.{◌≡◌, ◌||◌, [], true, false, IfOk, OnOk};
+ghost use Rattle.vk_ast.specs.declared.names.NameId.{NameId};
 ghost use Rattle.vk_ast.specs.Directives.{directive_of};
+ghost use Rattle.vk_ast.specs.Units.{function_of};
+ghost use Rattle.vk_rules_book.specs.Noting.{found};
+ghost use Rattle.vk_rules_book.specs.Visits.{entry_visits};
+ghost use Rattle.vk_rules_names.specs.Seen.{unit_of};
+ghost use Rattle.vk_rules_directives.specs.Inner.Tables.{AreTypes, Holds, has, lists_as, nothing, type_at};
 ghost use Rattle.vk_rules_book.specs.Faults.{directive_fault, first_among};
-ghost use Rattle.vk_rules_book.specs.Directives.{is_aligned, is_empty, is_uniform_list};
+ghost use Rattle.vk_rules_book.specs.Directives.{all_entry_faults, is_aligned, is_empty, is_listed, is_uniform_list};
 ghost use Rattle.vk_rules_directives.specs.Inner.Tests.{entry_faults_by, is_pointer, is_written};
 
-use vk_ast::Directive;
+use crate::joins::join;
+use crate::names::{NameSet, type_at};
+use vk_ast::{Directive, Function, Memory};
 use vk_kinds::CType;
 use vk_rules_book::{Entry, Fault, Listed};
-use vk_rules_names::Note;
-use vk_rules_names::fault_with;
+use vk_rules_names::{Note, Place, fault_with};
 use vk_unit_rules::UnitRule;
 
 fn is_pointer(ctype: Option<CType>) -> bool
@@ -77,4 +84,78 @@ fn judge_listed(
         is_uniform(e.listed) && is_written(ctype),
         directive_fault(d, e.token, UnitRule::D14),
     );
+}
+
+// A directive of a function, at a place of a unit, with the types of the function's parameters by their names.
+#[derive(Clone, Copy)]
+pub(crate) struct At<'a> {
+    pub(crate) place: &'a Place<'a>,
+    pub(crate) f: &'a Function,
+    pub(crate) d: &'a Directive,
+    pub(crate) types: &'a [Option<CType>],
+}
+
+// Judges a listed name behind those of these sets; the answer is whether it breaks no rule.
+#[tactic(auto, using(crate::proofs::Firsts::among_joined, crate::proofs::Firsts::none_among))]
+fn judge_entry(
+    at: &At,
+    shaped: &NameSet,
+    aligned: &NameSet,
+    e: Entry,
+    note: &mut Note,
+) -> bool
+    ensures noted { note.new.first ≡ first_among note.old.first
+        (entry_faults_by (type_at at.now.types.now e.name) (has shaped.now e.name) (has aligned.now e.name) (directive_of at.now.d.now) e) }
+    ensures sound { result ≡ is_empty (entry_faults_by (type_at at.now.types.now e.name) (has shaped.now e.name) (has aligned.now e.name) (directive_of at.now.d.now) e) }
+{
+    let mut own = Note { first: None };
+    judge_listed(
+        type_at(at.types, e.name),
+        shaped.has(e.name),
+        aligned.has(e.name),
+        at.d,
+        e,
+        &mut own,
+    );
+    join(note, own);
+    own.first.is_none()
+}
+
+// Adds a listed name to the set of its kind of list.
+fn list(shaped: &mut NameSet, aligned: &mut NameSet, e: Entry) -> Result<(), Memory>
+    ensures shaped { OnOk result ((id : NameId) → has shaped.new id ≡ (has shaped.old id || lists_as false e id)) }
+    ensures aligned { OnOk result ((id : NameId) → has aligned.new id ≡ (has aligned.old id || lists_as true e id)) }
+{
+    if is_aligned(e.listed) {
+        aligned.add(e.name)?;
+    } else {
+        shaped.add(e.name)?;
+    }
+    Ok(())
+}
+
+// Judges the names that a directive's clauses list, one after another; the answer is whether they break no rule.
+pub(crate) fn judge_entries(
+    at: &At,
+    shaped: &mut NameSet,
+    aligned: &mut NameSet,
+    entries: &[Entry],
+    note: &mut Note,
+) -> Result<bool, Memory>
+    requires types { AreTypes at.now.types.now at.now.f.now.params.items }
+    requires shaped { Holds shaped.old nothing }
+    requires aligned { Holds aligned.old nothing }
+    ensures noted { OnOk result (note.new.first ≡ found (unit_of at.now.place.now) note.old.first
+        (entry_visits (function_of at.now.f.now) (directive_of at.now.d.now) [] entries.now)) }
+    ensures sound { IfOk result (λ sound. sound ≡ is_empty (all_entry_faults (function_of at.now.f.now) (directive_of at.now.d.now) [] entries.now)) }
+    ensures shaped { OnOk result (Holds shaped.new (is_listed false entries.now)) }
+    ensures aligned { OnOk result (Holds aligned.new (is_listed true entries.now)) }
+{
+    let mut sound = true;
+    for e in entries {
+        let right = judge_entry(at, shaped, aligned, *e, note);
+        sound = sound && right;
+        list(shaped, aligned, *e)?;
+    }
+    Ok(sound)
 }

@@ -3,4 +3,5 @@
 
 pub mod entries;
 pub mod clauses;
+pub mod joins;
 pub mod names;

@@ -87,6 +87,20 @@ fn reach(types: &mut Vec<Option<CType>>, place: usize) -> Result<(), Memory>
     Ok(())
 }
 
+// Sets what the table has for a name.
+fn set_type(
+    types: &mut Vec<Option<CType>>,
+    id: NameId,
+    ctype: Option<CType>,
+) -> Result<(), Memory>
+    ensures { OnOk result ((other : NameId) → type_at types.new.items other ≡ cond (same_name id other) ctype (type_at types.old.items other)) }
+{
+    let place = id.0 as usize;
+    reach(types, place)?;
+    types[place] = ctype;
+    Ok(())
+}
+
 // Notes the type of a parameter. A name keeps its first one.
 pub(crate) fn add_type(
     types: &mut Vec<Option<CType>>,
@@ -96,22 +110,15 @@ pub(crate) fn add_type(
     ensures { OnOk result ((other : NameId) →
         type_at types.new.items other ≡ option_or (type_at types.old.items other) (cond (same_name id other) (Some ctype) None)) }
 {
-    let place = id.0 as usize;
-    reach(types, place)?;
-    if types[place].is_none() {
-        types[place] = Some(ctype);
-    }
-    Ok(())
+    let known = type_at(types, id);
+    set_type(types, id, known.or(Some(ctype)))
 }
 
 // Takes a name out of the table.
-pub(crate) fn remove_type(types: &mut Vec<Option<CType>>, id: NameId)
-    ensures { (other : NameId) → type_at types.new.items other ≡ cond (same_name id other) None (type_at types.old.items other) }
+pub(crate) fn remove_type(types: &mut Vec<Option<CType>>, id: NameId) -> Result<(), Memory>
+    ensures { OnOk result ((other : NameId) → type_at types.new.items other ≡ cond (same_name id other) None (type_at types.old.items other)) }
 {
-    let place = id.0 as usize;
-    if place < types.len() {
-        types[place] = None;
-    }
+    set_type(types, id, None)
 }
 
 pub(crate) fn type_at(types: &[Option<CType>], id: NameId) -> Option<CType>

@@ -1,12 +1,12 @@
 -- What tables by the numbers of names say.
-use Rattle.std.specs.Prelude.{◌≡◌, ℕ, Bool, true, false, cond, ◌&&◌, List, [], ◌∷◌, Option, Some, None, slice_get, unwrap_or}
+use Rattle.std.specs.Prelude.{◌≡◌, ℕ, Bool, true, false, cond, ◌&&◌, not, List, [], ◌∷◌, Option, Some, None, slice_get, unwrap_or}
 use Rattle.std.specs.Option.{option_map}
 use Rattle.std.specs.List.{list_any}
 use Rattle.vk_kinds.specs.declared.heads.CType.{CType}
 use Rattle.vk_ast.specs.declared.names.NameId.{NameId}
 use Rattle.vk_ast.specs.declared.items.ParamDecl.{ParamDecl}
 use Rattle.vk_rules_book.specs.declared.lists.Entry.{Entry}
-use Rattle.vk_rules_book.specs.Directives.{is_listed, is_uniform_list}
+use Rattle.vk_rules_book.specs.Directives.{is_aligned, is_uniform_list}
 use Rattle.vk_rules_book.specs.Scopes.{same_name}
 use Rattle.vk_rules_book.specs.Signatures.{param_of}
 use Rattle.vk_rules_directives.specs.declared.names.NameSet.{NameSet}
@@ -33,6 +33,14 @@ type_of_param params id = option_map (λ (p : ParamDecl). p.ctype) (param_of par
 -- the table has the type of each parameter
 abbrev pub AreTypes : List (Option CType) → List ParamDecl → Type 0
 AreTypes types params = (id : NameId) → type_at types id ≡ type_of_param params id
+
+-- the entry lists the name by `aligned`, or by `uniform` or `linear`
+abbrev pub lists_as : (by_aligned : Bool) → Entry → NameId → Bool
+lists_as by_aligned e id = same_name e.name id && cond by_aligned (is_aligned e.listed) (not (is_aligned e.listed))
+
+-- one of the entries is this name
+abbrev pub names_one : List Entry → NameId → Bool
+names_one entries id = list_any (λ e. same_name e.name id) entries
 
 -- these entries list the name as uniform
 abbrev pub lists_uniform : List Entry → NameId → Bool

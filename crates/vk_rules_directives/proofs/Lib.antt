@@ -1,0 +1,5 @@
+mod Listed
+mod Firsts
+mod Pushes
+mod Said
+mod Types

@@ -1,0 +1,16 @@
+// The first fault of a part and of what was found before it.
+
+ghost use Rattle.std.specs.Prelude.{◌≡◌};
+ghost use Rattle.vk_rules_directives.specs.Inner.Joins.{joined};
+
+use vk_rules_names::Note;
+
+// Notes the first fault of a part.
+#[tactic(auto, using(vk_rules_book::proofs::Noting::among_one))]
+pub(crate) fn join(note: &mut Note, part: Note)
+    ensures { note.new.first ≡ joined note.old.first part.first }
+{
+    if let Some(fault) = part.first {
+        note.add(true, fault);
+    }
+}
