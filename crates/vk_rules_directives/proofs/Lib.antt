@@ -1,4 +1,5 @@
 mod Listed
+mod Constants
 mod Firsts
 mod Pushes
 mod Said

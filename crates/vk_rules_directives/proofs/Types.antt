@@ -1,5 +1,5 @@
 -- Tables of the types of parameters.
-use Rattle.std.proofs.Common.{◌≡◌, ◌≢◌, ℕ, ◌<◌, ◌==◌, Bool, true, false, cond, List, [], ◌∷◌, ◌++◌, length, get_or, slice_set, slice_get, unwrap_or, Option, Some, None, refl, sym, subst, ap, ap₂, ◌∙◌, arith, get_or-set_other, get_or-set_same}
+use Rattle.std.proofs.Common.{◌≡◌, ◌≢◌, ℕ, ◌+◌, ◌<◌, ◌≤◌, ◌==◌, Bool, true, false, cond, ◌||◌, take, List, [], ◌∷◌, ◌++◌, length, get_or, slice_set, slice_get, unwrap_or, Option, Some, None, refl, sym, subst, ap, ap₂, ◌∙◌, arith, get_or-set_other, get_or-set_same}
 use Rattle.std.specs.Option.{option_or, option_map}
 use Rattle.std.proofs.lemmas.Bool.Decides.{nat_tests}
 use Rattle.std.proofs.lemmas.Option.{unwrap_or-slice_get}
@@ -8,7 +8,10 @@ use Rattle.vk_ast.specs.declared.names.NameId.{NameId}
 use Rattle.vk_ast.specs.declared.items.ParamDecl.{ParamDecl}
 use Rattle.vk_rules_book.specs.Scopes.{same_name}
 use Rattle.vk_rules_book.specs.Signatures.{is_named, param_of}
-use Rattle.vk_rules_directives.specs.Inner.Tables.{type_at, type_of_param}
+use Rattle.std.specs.List.{list_any}
+use Rattle.std.proofs.lemmas.List.{take_all}
+use Rattle.vk_rules_directives.specs.Inner.Tables.{AreTypes, type_at, type_of_param}
+use Rattle.vk_rules_directives.proofs.Pushes.{any_push, taken}
 
 set_at : (xs : List (Option CType)) (k : ℕ) (v : Option CType) (n : ℕ) (b : Bool) → k < length xs → (k == n) ≡ b
     → unwrap_or (slice_get (slice_set xs k v) n) None ≡ cond b v (unwrap_or (slice_get xs n) None)
@@ -68,3 +71,38 @@ none_typed id = refl
 pub type_push : (ps : List ParamDecl) (p : ParamDecl) (id : NameId) → type_of_param (ps ++ p ∷ []) id ≡ option_or (type_of_param ps id) (cond (is_named id p) (Some p.ctype) None)
 type_push ps p id =
     ap (option_map (λ (p : ParamDecl). p.ctype)) (of_push ps p id) ∙ first_of (param_of ps id) _ ∙ ap (option_or (type_of_param ps id)) (of_cond (is_named id p) p)
+
+pub learn_more : (params : List ParamDecl) (k : ℕ) (p : ParamDecl) (old new : List (Option CType)) → k < length params → p ≡ get_or params k p → AreTypes old (take k params)
+    → ((id : NameId) → type_at new id ≡ option_or (type_at old id) (cond (is_named id p) (Some p.ctype) None)) → AreTypes new (take (k + 1) params)
+learn_more params k p old new lt is are added id =
+    added id ∙ ap (λ t. option_or t (cond (is_named id p) (Some p.ctype) None)) (are id)
+    ∙ sym (ap (λ ps. type_of_param ps id) (taken params k p p lt is) ∙ type_push (take k params) p id)
+
+cond_twice : (a b : Bool) (t : Option CType) → cond b None (cond a None t) ≡ cond (a || b) None t
+cond_twice true true t = refl
+cond_twice true false t = refl
+cond_twice false b t = refl
+
+pub unlearn_more : (params : List ParamDecl) (k : ℕ) (p : ParamDecl) (base old new : List (Option CType)) → k < length params → p ≡ get_or params k p
+    → ((id : NameId) → type_at old id ≡ cond (list_any (is_named id) (take k params)) None (type_at base id))
+    → ((id : NameId) → type_at new id ≡ cond (is_named id p) None (type_at old id))
+    → (id : NameId) → type_at new id ≡ cond (list_any (is_named id) (take (k + 1) params)) None (type_at base id)
+unlearn_more params k p base old new lt is so_far removed id =
+    removed id ∙ ap (cond (is_named id p) None) (so_far id) ∙ cond_twice (list_any (is_named id) (take k params)) (is_named id p) (type_at base id)
+    ∙ sym (ap (λ ps. cond (list_any (is_named id) ps) None (type_at base id)) (taken params k p p lt is) ∙ ap (λ b. cond b None (type_at base id)) (any_push (is_named id) (take k params) p))
+
+head_forgot : (b rest : Bool) (p : ParamDecl) (o : Option ParamDecl) → cond rest None (option_map (λ (p : ParamDecl). p.ctype) o) ≡ None
+    → cond (b || rest) None (option_map (λ (p : ParamDecl). p.ctype) (cond b (Some p) o)) ≡ None
+head_forgot true rest p o e = refl
+head_forgot false rest p o e = e
+
+forgot : (ps : List ParamDecl) (id : NameId) → cond (list_any (is_named id) ps) None (type_of_param ps id) ≡ None
+unfolding param_of
+forgot [] id = refl
+forgot (p ∷ ps) id = head_forgot (is_named id p) (list_any (is_named id) ps) p (param_of ps id) (forgot ps id)
+
+-- the names of all parameters are out of the table
+pub unlearned : (params : List ParamDecl) (k : ℕ) (base last : List (Option CType)) → length params ≤ k → AreTypes base params
+    → ((id : NameId) → type_at last id ≡ cond (list_any (is_named id) (take k params)) None (type_at base id)) → (id : NameId) → type_at last id ≡ None
+unlearned params k base last past are so_far id =
+    so_far id ∙ ap₂ (λ (ps : List ParamDecl) (t : Option CType). cond (list_any (is_named id) ps) None t) (take_all k params past) (are id) ∙ forgot params id

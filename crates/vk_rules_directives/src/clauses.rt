@@ -1,6 +1,6 @@
 // The rules on clauses: D1, D4 to D7, D9 to D11, and C16 of the names in them.
 
-ghost use Rattle.std.specs.Prelude.{◌≡◌, List, not, map, length};
+ghost use Rattle.std.specs.Prelude.{◌≡◌, ◌++◌, [], List, not, map, length};
 ghost use Rattle.std.specs.List.{list_any};
 ghost use Rattle.std.specs.Option.{option_map};
 ghost use Rattle.vk_ast.specs.Directives.{ClauseTree, clause_of, directive_of, says_of};
@@ -8,10 +8,19 @@ ghost use Rattle.vk_ast.specs.Tree.{expr_of};
 ghost use Rattle.vk_unit_rules.specs.declared.rules.UnitRule.TheVariants.{C16};
 ghost use Rattle.vk_rules_book.specs.Faults.{fault_at, first_among, when};
 ghost use Rattle.vk_rules_book.specs.Scopes.{is_long};
-ghost use Rattle.vk_rules_book.specs.Directives.{has_modifier, has_wrong_alignment, is_branch, is_of_references, is_other, is_power_from, is_simdlen, is_unknown, is_wrong_alignment, is_wrong_simdlen, long_name_faults, names_in};
+ghost use Rattle.vk_ast.specs.Units.{function_of};
+ghost use Rattle.vk_rules_book.specs.Noting.{found};
+ghost use Rattle.vk_rules_book.specs.Visits.{clause_visits};
+ghost use Rattle.vk_rules_book.specs.Signatures.{is_uniform};
+ghost use Rattle.vk_rules_names.specs.Seen.{unit_of};
+ghost use Rattle.vk_rules_directives.specs.Inner.Tables.{AreTypes, Holds};
+ghost use Rattle.vk_rules_book.specs.Directives.{all_said_faults, has_modifier, has_wrong_step, is_empty, has_wrong_alignment, is_branch, is_of_references, is_other, is_power_from, is_simdlen, is_unknown, is_wrong_alignment, is_wrong_simdlen, long_name_faults, names_in};
 ghost use Rattle.vk_rules_directives.specs.Inner.Tests.{said_faults_by};
 
-use crate::entries::directive_fault;
+use crate::entries::{At, directive_fault};
+use crate::joins::{both, either, join};
+use crate::names::NameSet;
+use crate::steps::has_wrong_step;
 use vk_ast::{Clause, ClauseKind, Directive, Expr, Modifier, PlacedName};
 use vk_numbers::constant_to;
 use vk_rules_names::{Note, Place, fault_at};
@@ -195,4 +204,55 @@ fn judge_names(place: &Place, c: &Clause, note: &mut Note)
     if !is_other(&c.kind) {
         judge_long_names(place, &c.names, note);
     }
+}
+
+// Judges a clause, by whether a `simdlen` and a branch clause stand before it; the answer is whether it breaks no rule of its form.
+#[tactic(auto, using(crate::proofs::Firsts::among_joined, crate::proofs::Firsts::none_among, vk_rules_book::proofs::Noting::among_append))]
+fn judge_clause(
+    at: &At,
+    uniform: &NameSet,
+    has_simdlen: bool,
+    has_branch: bool,
+    c: &Clause,
+    note: &mut Note,
+) -> bool
+    requires types { AreTypes at.now.types.now at.now.f.now.params.items }
+    requires uniform { Holds uniform.now (is_uniform (directive_of at.now.d.now)) }
+    ensures noted { note.new.first ≡ first_among note.old.first
+        (said_faults_by has_simdlen has_branch (has_wrong_step (function_of at.now.f.now) (directive_of at.now.d.now) (says_of c.now.kind)) (directive_of at.now.d.now) (clause_of c.now)
+        ++ long_name_faults at.now.place.now.names.now (names_in (clause_of c.now))) }
+    ensures sound { result ≡ is_empty
+        (said_faults_by has_simdlen has_branch (has_wrong_step (function_of at.now.f.now) (directive_of at.now.d.now) (says_of c.now.kind)) (directive_of at.now.d.now) (clause_of c.now)) }
+{
+    let mut own = Note { first: None };
+    let wrong_step = has_wrong_step(at, uniform, &c.kind);
+    judge_form(has_simdlen, has_branch, wrong_step, at.d, c, &mut own);
+    join(note, own);
+    judge_names(at.place, c, note);
+    own.first.is_none()
+}
+
+// Judges the clauses of a directive, one after another; the answer is whether they break no rule of their form.
+pub(crate) fn judge_clauses(
+    at: &At,
+    uniform: &NameSet,
+    clauses: &[Clause],
+    note: &mut Note,
+) -> bool
+    requires types { AreTypes at.now.types.now at.now.f.now.params.items }
+    requires uniform { Holds uniform.now (is_uniform (directive_of at.now.d.now)) }
+    ensures noted { note.new.first ≡ found (unit_of at.now.place.now) note.old.first
+        (clause_visits (function_of at.now.f.now) (directive_of at.now.d.now) [] (map clause_of clauses.now)) }
+    ensures sound { result ≡ is_empty (all_said_faults (function_of at.now.f.now) (directive_of at.now.d.now) [] (map clause_of clauses.now)) }
+{
+    let mut sound = true;
+    let mut has_simdlen = false;
+    let mut has_branch = false;
+    for c in clauses {
+        let right = judge_clause(at, uniform, has_simdlen, has_branch, c, note);
+        sound = both(sound, right);
+        has_simdlen = either(has_simdlen, is_simdlen(&c.kind));
+        has_branch = either(has_branch, is_branch(&c.kind));
+    }
+    sound
 }

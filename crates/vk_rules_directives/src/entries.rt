@@ -12,7 +12,7 @@ ghost use Rattle.vk_rules_book.specs.Faults.{directive_fault, first_among};
 ghost use Rattle.vk_rules_book.specs.Directives.{all_entry_faults, is_aligned, is_empty, is_listed, is_uniform_list};
 ghost use Rattle.vk_rules_directives.specs.Inner.Tests.{entry_faults_by, is_pointer, is_written};
 
-use crate::joins::join;
+use crate::joins::{both, join};
 use crate::names::{NameSet, type_at};
 use vk_ast::{Directive, Function, Memory};
 use vk_kinds::CType;
@@ -44,7 +44,7 @@ fn is_aligned(listed: Listed) -> bool
     matches!(listed, Listed::Aligned)
 }
 
-fn is_uniform(listed: Listed) -> bool
+pub(crate) fn is_uniform(listed: Listed) -> bool
     ensures { result ≡ is_uniform_list listed }
 {
     matches!(listed, Listed::Uniform)
@@ -154,7 +154,7 @@ pub(crate) fn judge_entries(
     let mut sound = true;
     for e in entries {
         let right = judge_entry(at, shaped, aligned, *e, note);
-        sound = sound && right;
+        sound = both(sound, right);
         list(shaped, aligned, *e)?;
     }
     Ok(sound)

@@ -1,6 +1,6 @@
 // The first fault of a part and of what was found before it.
 
-ghost use Rattle.std.specs.Prelude.{◌≡◌};
+ghost use Rattle.std.specs.Prelude.{◌≡◌, ◌&&◌, ◌||◌};
 ghost use Rattle.vk_rules_directives.specs.Inner.Joins.{joined};
 
 use vk_rules_names::Note;
@@ -13,4 +13,16 @@ pub(crate) fn join(note: &mut Note, part: Note)
     if let Some(fault) = part.first {
         note.add(true, fault);
     }
+}
+
+pub(crate) fn both(a: bool, b: bool) -> bool
+    ensures { result ≡ (a && b) }
+{
+    a && b
+}
+
+pub(crate) fn either(a: bool, b: bool) -> bool
+    ensures { result ≡ (a || b) }
+{
+    a || b
 }

@@ -1,7 +1,10 @@
 //! The rules on directives of functions.
 #![tactic(auto)]
 
-pub mod entries;
 pub mod clauses;
+pub mod entries;
 pub mod joins;
+pub mod listing;
 pub mod names;
+pub mod params;
+pub mod steps;

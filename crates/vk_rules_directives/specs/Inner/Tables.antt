@@ -5,7 +5,9 @@ use Rattle.std.specs.List.{list_any}
 use Rattle.vk_kinds.specs.declared.heads.CType.{CType}
 use Rattle.vk_ast.specs.declared.names.NameId.{NameId}
 use Rattle.vk_ast.specs.declared.items.ParamDecl.{ParamDecl}
+use Rattle.vk_ast.specs.declared.directives.PlacedName.{PlacedName}
 use Rattle.vk_rules_book.specs.declared.lists.Entry.{Entry}
+use Rattle.vk_rules_book.specs.declared.lists.Listed.{Listed}
 use Rattle.vk_rules_book.specs.Directives.{is_aligned, is_uniform_list}
 use Rattle.vk_rules_book.specs.Scopes.{same_name}
 use Rattle.vk_rules_book.specs.Signatures.{param_of}
@@ -33,6 +35,10 @@ type_of_param params id = option_map (λ (p : ParamDecl). p.ctype) (param_of par
 -- the table has the type of each parameter
 abbrev pub AreTypes : List (Option CType) → List ParamDecl → Type 0
 AreTypes types params = (id : NameId) → type_at types id ≡ type_of_param params id
+
+-- a name that such a list has
+abbrev pub entry_of : Listed → PlacedName → Entry
+entry_of listed n = record { token = n.token; name = n.name; listed = listed }
 
 -- the entry lists the name by `aligned`, or by `uniform` or `linear`
 abbrev pub lists_as : (by_aligned : Bool) → Entry → NameId → Bool
