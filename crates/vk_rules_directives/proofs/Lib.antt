@@ -1,6 +1,7 @@
-mod Listed
 mod Constants
 mod Firsts
+mod Listed
 mod Pushes
 mod Said
 mod Types
+mod Whole

@@ -9,6 +9,7 @@ use Rattle.vk_ast.specs.declared.directives.PlacedName.{PlacedName}
 use Rattle.vk_rules_book.specs.declared.faults.Fault.{Fault}
 use Rattle.vk_rules_book.specs.declared.lists.Entry.{Entry}
 use Rattle.vk_rules_book.specs.Visits.{Visit, clause, clause_visits, directive, directive_visits, entry, entry_visits, entries_of}
+use Rattle.vk_rules_directives.specs.Inner.Marks.{own_visits}
 use Rattle.vk_rules_book.specs.Directives.{all_entry_faults, all_said_faults, entry_faults, said_faults}
 
 -- one item more, of any list
@@ -33,6 +34,12 @@ or_assoc false b c = refl
 pub any_push : {A : Type 0} (p : A → Bool) (xs : List A) (x : A) → list_any p (xs ++ x ∷ []) ≡ (list_any p xs || p x)
 any_push p [] x = or_none (p x)
 any_push p (y ∷ xs) x = ap (λ b. p y || b) (any_push p xs x) ∙ or_assoc (p y) (list_any p xs) (p x)
+
+-- a test on one item more
+pub any_more : {A B : Type 0} (view : A → B) (test : B → Bool) (xs : List A) (k : ℕ) (x : A) (old new : Bool) → k < length xs → x ≡ get_or xs k x
+    → old ≡ list_any test (map view (take k xs)) → new ≡ (old || test (view x)) → new ≡ list_any test (map view (take (k + 1) xs))
+any_more view test xs k x old new lt is so_far more =
+    more ∙ ap (λ b. b || test (view x)) so_far ∙ sym (ap (list_any test) (grown view xs k x lt is) ∙ any_push test (map view (take k xs)) (view x))
 
 pub flat_push : {A B : Type 0} (f : A → List B) (xs : List A) (x : A) → flat_map f (xs ++ x ∷ []) ≡ flat_map f xs ++ f x
 flat_push f xs x = flat_map-append f xs (x ∷ []) ∙ ap (λ ys. flat_map f xs ++ ys) (append-nil (f x))
@@ -59,10 +66,6 @@ module _ (f : FunctionTree) (d : DirectiveTree) where
   listed_push earlier (b ∷ es) e =
       ap (λ xs. entry_faults f d earlier b ++ xs) (listed_push (earlier ++ b ∷ []) es e ∙ ap (λ xs. all_entry_faults f d (earlier ++ b ∷ []) es ++ entry_faults f d xs e) (append_assoc earlier (b ∷ []) es))
       ∙ sym (append_assoc (entry_faults f d earlier b) _ _)
-
--- what is visited of one directive
-abbrev pub own_visits : FunctionTree → List DirectiveTree → DirectiveTree → List Visit
-own_visits f earlier d = directive f earlier d ∷ (clause_visits f d [] d.clauses ++ entry_visits f d [] (entries_of d.clauses))
 
 pub directive_push : (f : FunctionTree) (earlier ds : List DirectiveTree) (d : DirectiveTree)
     → directive_visits f earlier (ds ++ d ∷ []) ≡ directive_visits f earlier ds ++ own_visits f (earlier ++ ds) d

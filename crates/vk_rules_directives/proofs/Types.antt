@@ -72,24 +72,24 @@ pub type_push : (ps : List ParamDecl) (p : ParamDecl) (id : NameId) → type_of_
 type_push ps p id =
     ap (option_map (λ (p : ParamDecl). p.ctype)) (of_push ps p id) ∙ first_of (param_of ps id) _ ∙ ap (option_or (type_of_param ps id)) (of_cond (is_named id p) p)
 
-pub learn_more : (params : List ParamDecl) (k : ℕ) (p : ParamDecl) (old new : List (Option CType)) → k < length params → p ≡ get_or params k p → AreTypes old (take k params)
+pub learn_more : (params : List ParamDecl) (k : ℕ) (d p : ParamDecl) (old new : List (Option CType)) → k < length params → p ≡ get_or params k d → AreTypes old (take k params)
     → ((id : NameId) → type_at new id ≡ option_or (type_at old id) (cond (is_named id p) (Some p.ctype) None)) → AreTypes new (take (k + 1) params)
-learn_more params k p old new lt is are added id =
+learn_more params k d p old new lt is are added id =
     added id ∙ ap (λ t. option_or t (cond (is_named id p) (Some p.ctype) None)) (are id)
-    ∙ sym (ap (λ ps. type_of_param ps id) (taken params k p p lt is) ∙ type_push (take k params) p id)
+    ∙ sym (ap (λ ps. type_of_param ps id) (taken params k d p lt is) ∙ type_push (take k params) p id)
 
 cond_twice : (a b : Bool) (t : Option CType) → cond b None (cond a None t) ≡ cond (a || b) None t
 cond_twice true true t = refl
 cond_twice true false t = refl
 cond_twice false b t = refl
 
-pub unlearn_more : (params : List ParamDecl) (k : ℕ) (p : ParamDecl) (base old new : List (Option CType)) → k < length params → p ≡ get_or params k p
+pub unlearn_more : (params : List ParamDecl) (k : ℕ) (d p : ParamDecl) (base old new : List (Option CType)) → k < length params → p ≡ get_or params k d
     → ((id : NameId) → type_at old id ≡ cond (list_any (is_named id) (take k params)) None (type_at base id))
     → ((id : NameId) → type_at new id ≡ cond (is_named id p) None (type_at old id))
     → (id : NameId) → type_at new id ≡ cond (list_any (is_named id) (take (k + 1) params)) None (type_at base id)
-unlearn_more params k p base old new lt is so_far removed id =
+unlearn_more params k d p base old new lt is so_far removed id =
     removed id ∙ ap (cond (is_named id p) None) (so_far id) ∙ cond_twice (list_any (is_named id) (take k params)) (is_named id p) (type_at base id)
-    ∙ sym (ap (λ ps. cond (list_any (is_named id) ps) None (type_at base id)) (taken params k p p lt is) ∙ ap (λ b. cond b None (type_at base id)) (any_push (is_named id) (take k params) p))
+    ∙ sym (ap (λ ps. cond (list_any (is_named id) ps) None (type_at base id)) (taken params k d p lt is) ∙ ap (λ b. cond b None (type_at base id)) (any_push (is_named id) (take k params) p))
 
 head_forgot : (b rest : Bool) (p : ParamDecl) (o : Option ParamDecl) → cond rest None (option_map (λ (p : ParamDecl). p.ctype) o) ≡ None
     → cond (b || rest) None (option_map (λ (p : ParamDecl). p.ctype) (cond b (Some p) o)) ≡ None

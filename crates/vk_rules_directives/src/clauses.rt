@@ -206,8 +206,27 @@ fn judge_names(place: &Place, c: &Clause, note: &mut Note)
     }
 }
 
+// Judges what a clause says, as `judge_form`; the answer is whether it breaks no rule.
+#[tactic(auto, using(crate::proofs::Firsts::among_joined, crate::proofs::Firsts::none_among))]
+fn judge_said(
+    has_simdlen: bool,
+    has_branch: bool,
+    wrong_step: bool,
+    d: &Directive,
+    c: &Clause,
+    note: &mut Note,
+) -> bool
+    ensures noted { note.new.first ≡ first_among note.old.first (said_faults_by has_simdlen has_branch wrong_step (directive_of d.now) (clause_of c.now)) }
+    ensures sound { result ≡ is_empty (said_faults_by has_simdlen has_branch wrong_step (directive_of d.now) (clause_of c.now)) }
+{
+    let mut own = Note { first: None };
+    judge_form(has_simdlen, has_branch, wrong_step, d, c, &mut own);
+    join(note, own);
+    own.first.is_none()
+}
+
 // Judges a clause, by whether a `simdlen` and a branch clause stand before it; the answer is whether it breaks no rule of its form.
-#[tactic(auto, using(crate::proofs::Firsts::among_joined, crate::proofs::Firsts::none_among, vk_rules_book::proofs::Noting::among_append))]
+#[tactic(auto, using(vk_rules_book::proofs::Noting::among_append))]
 fn judge_clause(
     at: &At,
     uniform: &NameSet,
@@ -224,12 +243,10 @@ fn judge_clause(
     ensures sound { result ≡ is_empty
         (said_faults_by has_simdlen has_branch (has_wrong_step (function_of at.now.f.now) (directive_of at.now.d.now) (says_of c.now.kind)) (directive_of at.now.d.now) (clause_of c.now)) }
 {
-    let mut own = Note { first: None };
     let wrong_step = has_wrong_step(at, uniform, &c.kind);
-    judge_form(has_simdlen, has_branch, wrong_step, at.d, c, &mut own);
-    join(note, own);
+    let sound = judge_said(has_simdlen, has_branch, wrong_step, at.d, c, note);
     judge_names(at.place, c, note);
-    own.first.is_none()
+    sound
 }
 
 // Judges the clauses of a directive, one after another; the answer is whether they break no rule of their form.

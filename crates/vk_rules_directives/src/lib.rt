@@ -2,9 +2,12 @@
 #![tactic(auto)]
 
 pub mod clauses;
+pub mod directives;
 pub mod entries;
 pub mod joins;
 pub mod listing;
 pub mod names;
 pub mod params;
+pub mod signed;
 pub mod steps;
+pub mod whole;
