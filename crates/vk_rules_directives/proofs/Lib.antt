@@ -4,4 +4,4 @@ mod Listed
 mod Pushes
 mod Said
 mod Types
-mod Whole
+mod Givens

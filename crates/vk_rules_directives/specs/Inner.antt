@@ -4,3 +4,4 @@ pub mod Marks
 pub mod Signed
 pub mod Tables
 pub mod Tests
+pub mod Working

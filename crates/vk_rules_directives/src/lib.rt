@@ -8,6 +8,7 @@ pub mod joins;
 pub mod listing;
 pub mod names;
 pub mod params;
+pub mod redeclarations;
 pub mod signed;
 pub mod steps;
 pub mod whole;

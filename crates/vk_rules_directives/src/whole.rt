@@ -116,7 +116,7 @@ fn share_length(xs: &[Length], ys: &[Length]) -> bool
 }
 
 // Whether two directives of a function give the same name. Their parameters are compared first.
-#[tactic(auto, using(crate::proofs::Whole::equal_lengths), unfolding(vk_rules_book::specs::Signatures::share_a_name))]
+#[tactic(auto, using(crate::proofs::Givens::equal_lengths), unfolding(vk_rules_book::specs::Signatures::share_a_name))]
 fn share_a_name(target: Target, h: &Head, s: &Signature, t: &Signature) -> bool
     requires { length h.now.params.items ≡ length t.now.params.items }
     ensures { result ≡ share_a_name target (head_types h.now) (signature_tree s.now) (signature_tree t.now) }

@@ -1,5 +1,5 @@
 -- The signatures of directives, and the tests on them.
-use Rattle.std.specs.Prelude.{◌≡◌, Bool, true, false, cond, ◌&&◌, not, List, [], ◌∷◌, ◌++◌, map, Option, Some, None, is_some}
+use Rattle.std.specs.Prelude.{◌≡◌, ℕ, Bool, true, false, cond, ◌&&◌, not, List, [], ◌∷◌, ◌++◌, map, Option, Some, None, is_some, slice_get}
 use Rattle.std.specs.List.{list_any, list_all}
 use Rattle.std.specs.Option.{option_map}
 use Rattle.vk_kinds.specs.declared.kinds.Length.{Length}
@@ -7,13 +7,15 @@ use Rattle.vk_kinds.specs.declared.kinds.Signature.{Signature}
 use Rattle.vk_kinds.specs.declared.kinds.Target.{Target}
 use Rattle.vk_kinds.specs.Sizes.{HeadTypes, SignatureTree, signature_tree}
 use Rattle.vk_ast.specs.Directives.{DirectiveTree}
-use Rattle.vk_ast.specs.Units.{FunctionTree, ItemTree, function}
+use Rattle.vk_ast.specs.declared.items.Function.{Function}
+use Rattle.vk_ast.specs.declared.items.Item.{Item}
+use Rattle.vk_ast.specs.declared.items.Item.TheVariants.{Function as AFunction}
+use Rattle.vk_ast.specs.Units.{FunctionTree, ItemTree, function_of}
 use Rattle.vk_unit_rules.specs.declared.rules.UnitRule.TheVariants.{D17, D18, D19}
 use Rattle.vk_rules_book.specs.declared.faults.Fault.{Fault}
 use Rattle.vk_rules_book.specs.Faults.{when, directive_fault}
-use Rattle.vk_rules_book.specs.Scopes.{has_directives}
 use Rattle.vk_rules_book.specs.Signatures.{same_length, same_signature, share_a_name, signature_of}
-use Rattle.vk_rules_book.specs.Directives.{at_first, has_signature, is_no_width}
+use Rattle.vk_rules_book.specs.Directives.{at_first, has_other_directives, has_signature, is_no_width}
 use Rattle.vk_rules_directives.specs.declared.signed.Signed.{Signed}
 
 -- the signature of a directive, none where it breaks a rule
@@ -69,3 +71,17 @@ is_nil (s ∷ ss) = false
 -- a list that is not empty is another than the first one, where all of both have signatures
 abbrev pub differs : (first own : List (Option SignatureTree)) → Bool
 differs first own = not (is_nil own) && ((list_all is_some first && list_all is_some own) && not (same_lists first own))
+
+-- ---- the first declarations of functions
+
+-- of each item that is a function the list has the signatures
+abbrev pub Agrees : List Signed → List Item → Type 0
+Agrees signed items = (n : ℕ) (s : Signed) (f : Function) → slice_get signed n ≡ Some s → slice_get items n ≡ Some (AFunction f) → AreSigned s (function_of f)
+
+-- what a function's directives break behind a first declaration
+abbrev pub others_at : Option ItemTree → FunctionTree → List Fault
+others_at first f = cond (has_other_directives first f) (at_first D17 f.token f.directives) []
+
+-- the signatures of an item that is a function
+abbrev pub AreOwn : Signed → Item → Type 0
+AreOwn s item = (f : Function) → item ≡ AFunction f → AreSigned s (function_of f)
