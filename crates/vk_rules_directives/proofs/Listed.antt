@@ -1,11 +1,11 @@
 -- Listed names by what tables say.
-use Rattle.std.proofs.Common.{◌≡◌, ℕ, ◌+◌, ◌<◌, Bool, true, false, cond, ◌&&◌, ◌||◌, not, List, [], ◌∷◌, ◌++◌, length, take, get_or, Option, Some, None, is_some, is_none, refl, sym, ap, ap₂, ◌∙◌}
+use Rattle.std.proofs.Common.{◌≡◌, ℕ, ◌+◌, ◌<◌, Bool, true, false, cond, ◌&&◌, ◌||◌, not, map, List, [], ◌∷◌, ◌++◌, length, take, get_or, Option, Some, None, is_some, is_none, refl, sym, ap, ap₂, ◌∙◌}
 use Rattle.std.specs.List.{list_any}
 use Rattle.std.specs.Option.{option_map}
 use Rattle.vk_kinds.specs.declared.heads.CType.{CType}
 use Rattle.vk_ast.specs.declared.names.NameId.{NameId}
 use Rattle.vk_ast.specs.declared.items.ParamDecl.{ParamDecl}
-use Rattle.vk_ast.specs.Directives.{DirectiveTree}
+use Rattle.vk_ast.specs.Directives.{ClauseTree, DirectiveTree, Says, simdlen, uniform, aligned, linear, inside as inbranch, outside as notinbranch, other}
 use Rattle.vk_ast.specs.Units.{FunctionTree}
 use Rattle.vk_unit_rules.specs.declared.rules.UnitRule.TheVariants.{D2, D3, D8, D13, D14}
 use Rattle.vk_rules_book.specs.declared.faults.Fault.{Fault}
@@ -13,13 +13,18 @@ use Rattle.vk_rules_book.specs.declared.lists.Entry.{Entry}
 use Rattle.vk_rules_book.specs.Faults.{directive_fault, first_among, when}
 use Rattle.vk_rules_book.specs.Noting.{found}
 use Rattle.vk_rules_book.specs.Rules.{Subject}
-use Rattle.vk_rules_book.specs.Visits.{entry, entry_visits}
-use Rattle.vk_rules_book.specs.Signatures.{param_of}
+use Rattle.vk_rules_book.specs.Visits.{entries_of, entries_said, entry, entry_visits}
+use Rattle.vk_rules_book.specs.declared.lists.Listed.{Listed}
+use Rattle.vk_rules_book.specs.declared.lists.Listed.TheVariants as listed
+use Rattle.vk_rules_book.specs.Scopes.{same_name}
+use Rattle.std.proofs.lemmas.List.Folds.{list_any-append}
+use Rattle.vk_ast.specs.declared.directives.PlacedName.{PlacedName}
+use Rattle.vk_rules_book.specs.Signatures.{is_in_uniform, is_uniform, lists, param_of}
 use Rattle.vk_rules_book.specs.Directives.{all_entry_faults, entry_faults, is_aligned, is_empty, is_listed, is_pointer_param, is_uniform_list, is_written_param}
 use Rattle.vk_rules_book.proofs.Noting.{found_append, found_one}
-use Rattle.vk_rules_signatures.proofs.Sound.{empty_append}
+use Rattle.vk_rules_signatures.proofs.Sound.{and_left, and_right, empty_append}
 use Rattle.vk_rules_directives.specs.declared.names.NameSet.{NameSet}
-use Rattle.vk_rules_directives.specs.Inner.Tables.{AreTypes, Holds, has, lists_as, type_at, type_of_param}
+use Rattle.vk_rules_directives.specs.Inner.Tables.{AreTypes, Holds, entry_of, has, lists_as, lists_uniform, names_one, nothing, type_at, type_of_param}
 use Rattle.vk_rules_directives.specs.Inner.Tests.{entry_faults_by}
 use Rattle.vk_rules_directives.proofs.Pushes.{any_push, entry_push, listed_push, taken}
 
@@ -48,6 +53,61 @@ entry_by f d earlier e types shaped aligned are by_shape by_aligned =
     by_param f d earlier e ∙ by_type (param_of f.params e.name) _ _ d e
     ∙ ap (λ t. entry_faults_by t (is_listed false earlier e.name) (is_listed true earlier e.name) d e) (sym (are e.name))
     ∙ ap₂ (λ (s a : Bool). entry_faults_by (type_at types e.name) s a d e) (sym (by_shape e.name)) (sym (by_aligned e.name))
+
+-- ---- names out of the sets
+
+left : (b n : Bool) → (b ≡ true → n ≡ true) → (b && not n) ≡ false
+left true n e = ap not (e refl)
+left false n e = refl
+
+-- a set whose names were all taken out
+pub cleared : (new old : NameSet) (test : NameId → Bool) (entries : List Entry) → Holds old test → ((id : NameId) → has new id ≡ (has old id && not (names_one entries id)))
+    → ((id : NameId) → test id ≡ true → names_one entries id ≡ true) → Holds new nothing
+cleared new old test entries holds out named id = out id ∙ ap (λ b. b && not (names_one entries id)) (holds id) ∙ left (test id) (names_one entries id) (named id)
+
+either_so : (a b c d : Bool) → (a ≡ true → c ≡ true) → (b ≡ true → d ≡ true) → (a || b) ≡ true → (c || d) ≡ true
+either_so true b c d e f so = ap (λ z. z || d) (e refl)
+either_so false b true d e f so = refl
+either_so false b false d e f so = f so
+
+any_so : (p q : Entry → Bool) → ((e : Entry) → p e ≡ true → q e ≡ true) → (es : List Entry) → list_any p es ≡ true → list_any q es ≡ true
+any_so p q so [] e = e
+any_so p q so (x ∷ xs) e = either_so (p x) (list_any p xs) (q x) (list_any q xs) (so x) (any_so p q so xs) e
+
+pub uniform_named : (entries : List Entry) (id : NameId) → lists_uniform entries id ≡ true → names_one entries id ≡ true
+uniform_named entries id = any_so _ _ (λ e so. and_right (is_uniform_list e.listed) (same_name e.name id) so) entries
+
+pub listed_named : (by_aligned : Bool) (entries : List Entry) (id : NameId) → is_listed by_aligned entries id ≡ true → names_one entries id ≡ true
+listed_named by_aligned entries id = any_so _ _ (λ e so. and_left (same_name e.name id) _ so) entries
+
+-- ---- names that are uniform
+
+in_uniform : (id : NameId) (names : List PlacedName) → lists_uniform (map (entry_of listed.Uniform) names) id ≡ lists id names
+in_uniform id [] = refl
+in_uniform id (n ∷ ns) = ap (λ b. same_name n.name id || b) (in_uniform id ns)
+
+not_uniform : (id : NameId) (by : Listed) → is_uniform_list by ≡ false → (names : List PlacedName) → lists_uniform (map (entry_of by) names) id ≡ false
+not_uniform id by other [] = refl
+not_uniform id by other (n ∷ ns) = ap₂ (λ (a b : Bool). (a && same_name n.name id) || b) other (not_uniform id by other ns)
+
+said_uniform : (id : NameId) (s : Says) → lists_uniform (entries_said s) id ≡ is_in_uniform id s
+said_uniform id (simdlen e) = refl
+said_uniform id (uniform names) = in_uniform id names
+said_uniform id (aligned names e) = not_uniform id listed.Aligned refl names
+said_uniform id (linear names m e) = not_uniform id listed.Linear refl names
+said_uniform id inbranch = refl
+said_uniform id notinbranch = refl
+said_uniform id other = refl
+
+of_clauses : (id : NameId) (cs : List ClauseTree) → lists_uniform (entries_of cs) id ≡ list_any (λ (c : ClauseTree). is_in_uniform id c.says) cs
+of_clauses id [] = refl
+of_clauses id (c ∷ cs) =
+    list_any-append (λ (e : Entry). is_uniform_list e.listed && same_name e.name id) (entries_said c.says) (entries_of cs)
+    ∙ ap₂ (λ (a b : Bool). a || b) (said_uniform id c.says) (of_clauses id cs)
+
+pub uniform_by : (d : DirectiveTree) (id : NameId) → lists_uniform (entries_of d.clauses) id ≡ is_uniform d id
+unfolding is_uniform
+uniform_by d id = of_clauses id d.clauses
 
 -- ---- one name more
 

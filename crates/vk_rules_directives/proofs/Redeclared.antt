@@ -45,11 +45,11 @@ both_so true true c x y e = ap (λ z. c && not z) (e refl refl)
 both_so true false c x y e = refl
 both_so false b c x y e = refl
 
-heads : (a b : Bool) (s t : SignatureTree) (x y : Bool) (as bs : Bool) → (a && as) ≡ true → (b && bs) ≡ true → (as ≡ true → bs ≡ true → x ≡ y)
+heads : (a b : Bool) (s t : SignatureTree) (x y : Bool) (c e : Bool) → (a && c) ≡ true → (b && e) ≡ true → (c ≡ true → e ≡ true → x ≡ y)
     → (same_option (cond a (Some s) None) (cond b (Some t) None) && x) ≡ (same_signature s t && y)
-heads true true s t x y as bs ea eb e = ap (λ z. same_signature s t && z) (e ea eb)
-heads true false s t x y as bs ea eb e = absurd (false≢true eb)
-heads false b s t x y as bs ea eb e = absurd (false≢true ea)
+heads true true s t x y c e ea eb so = ap (λ z. same_signature s t && z) (so ea eb)
+heads true false s t x y c e ea eb so = absurd (false≢true eb)
+heads false b s t x y c e ea eb so = absurd (false≢true ea)
 
 same_of : (g f : FunctionTree) (ds es : List DirectiveTree) → list_all (has_signature g) ds ≡ true → list_all (has_signature f) es ≡ true
     → same_lists (map (signed g) ds) (map (signed f) es) ≡ same_signatures (map (signature_of g) ds) (map (signature_of f) es)

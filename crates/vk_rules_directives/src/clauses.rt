@@ -18,7 +18,7 @@ ghost use Rattle.vk_rules_book.specs.Directives.{all_said_faults, has_modifier, 
 ghost use Rattle.vk_rules_directives.specs.Inner.Tests.{said_faults_by};
 
 use crate::entries::{At, directive_fault};
-use crate::joins::{both, either, join};
+use crate::joins::{both, either, is_clear, join};
 use crate::names::NameSet;
 use crate::steps::has_wrong_step;
 use vk_ast::{Clause, ClauseKind, Directive, Expr, Modifier, PlacedName};
@@ -222,7 +222,7 @@ fn judge_said(
     let mut own = Note { first: None };
     judge_form(has_simdlen, has_branch, wrong_step, d, c, &mut own);
     join(note, own);
-    own.first.is_none()
+    is_clear(own)
 }
 
 // Judges a clause, by whether a `simdlen` and a branch clause stand before it; the answer is whether it breaks no rule of its form.

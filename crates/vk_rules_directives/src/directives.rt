@@ -1,6 +1,6 @@
 // The directives of a function, one after another.
 
-ghost use Rattle.std.specs.Prelude.{◌≡◌, ◌&&◌, ◌++◌, [], ◌∷◌, List, map, None, IfOk, OnOk};
+ghost use Rattle.std.specs.Prelude.{◌≡◌, ◌&&◌, ◌++◌, [], ◌∷◌, List, map, is_some, None, IfOk, OnOk};
 ghost use Rattle.vk_ast.specs.declared.names.NameId.{NameId};
 ghost use Rattle.vk_ast.specs.Directives.{DirectiveTree, directive_of};
 ghost use Rattle.vk_ast.specs.Units.{function_of};
@@ -62,8 +62,29 @@ impl Marks {
     }
 }
 
-// Judges the clauses of a directive and the names that they list; the answer is whether they break none of D1 to D14.
+// Judges the clauses of a directive and these names, which they list; the answer is whether they break none of D1 to D14.
 #[tactic(auto, using(vk_rules_book::proofs::Noting::found_append))]
+fn judge_read(
+    at: &At,
+    marks: &mut Marks,
+    entries: &[Entry],
+    note: &mut Note,
+) -> Result<bool, Memory>
+    requires entries { entries.now ≡ entries_of (directive_of at.now.d.now).clauses }
+    requires types { AreTypes at.now.types.now at.now.f.now.params.items }
+    requires marks { AreEmpty marks.old }
+    ensures noted { OnOk result (note.new.first ≡ found (unit_of at.now.place.now) note.old.first (form_visits (function_of at.now.f.now) (directive_of at.now.d.now))) }
+    ensures sound { IfOk result (λ sound. sound ≡ is_sound (function_of at.now.f.now) (directive_of at.now.d.now)) }
+    ensures marks { OnOk result (AreEmpty marks.new) }
+{
+    mark_uniform(&mut marks.uniform, entries)?;
+    let right = judge_clauses(at, &marks.uniform, &at.d.clauses, note);
+    let listed = judge_entries(at, &mut marks.shaped, &mut marks.aligned, entries, note)?;
+    marks.clear(entries);
+    Ok(both(right, listed))
+}
+
+// Judges the clauses of a directive and the names that they list; the answer is whether they break none of D1 to D14.
 fn judge_form(alloc: Global, at: &At, marks: &mut Marks, note: &mut Note) -> Result<bool, Memory>
     requires types { AreTypes at.now.types.now at.now.f.now.params.items }
     requires marks { AreEmpty marks.old }
@@ -72,11 +93,8 @@ fn judge_form(alloc: Global, at: &At, marks: &mut Marks, note: &mut Note) -> Res
     ensures marks { OnOk result (AreEmpty marks.new) }
 {
     let entries = entries_of(alloc, &at.d.clauses)?;
-    mark_uniform(&mut marks.uniform, &entries)?;
-    let right = judge_clauses(at, &marks.uniform, &at.d.clauses, note);
-    let listed = judge_entries(at, &mut marks.shaped, &mut marks.aligned, &entries, note)?;
-    marks.clear(&entries);
-    Ok(both(right, listed))
+    let sound = judge_read(at, marks, &entries, note)?;
+    Ok(sound)
 }
 
 // Judges a directive behind others, whose signatures these are.
@@ -102,6 +120,12 @@ fn judge_directive(
     Ok(signature)
 }
 
+fn has_one(signature: &Option<Signature>) -> bool
+    ensures { result ≡ is_some (seen signature.now) }
+{
+    signature.is_some()
+}
+
 // Judges the directives of a function, one after another.
 pub(crate) fn judge_list(
     alloc: Global,
@@ -122,7 +146,7 @@ pub(crate) fn judge_list(
     for d in &f.directives {
         let at = At { place, f, d, types };
         let signature = judge_directive(alloc, &at, marks, &list, note)?;
-        all = both(all, signature.is_some());
+        all = both(all, has_one(&signature));
         list.push(signature)?;
     }
     Ok(Signed { list, all })

@@ -88,11 +88,11 @@ fn judge_listed(
 
 // A directive of a function, at a place of a unit, with the types of the function's parameters by their names.
 #[derive(Clone, Copy)]
-pub(crate) struct At<'a> {
-    pub(crate) place: &'a Place<'a>,
-    pub(crate) f: &'a Function,
-    pub(crate) d: &'a Directive,
-    pub(crate) types: &'a [Option<CType>],
+pub(crate) struct At<'p, 'u, 'f, 'd, 't> {
+    pub(crate) place: &'p Place<'u>,
+    pub(crate) f: &'f Function,
+    pub(crate) d: &'d Directive,
+    pub(crate) types: &'t [Option<CType>],
 }
 
 // Judges a listed name behind those of these sets; the answer is whether it breaks no rule.

@@ -1,6 +1,6 @@
 // The first fault of a part and of what was found before it.
 
-ghost use Rattle.std.specs.Prelude.{◌≡◌, ◌&&◌, ◌||◌};
+ghost use Rattle.std.specs.Prelude.{◌≡◌, ◌&&◌, ◌||◌, is_none};
 ghost use Rattle.vk_rules_directives.specs.Inner.Joins.{joined};
 
 use vk_rules_names::Note;
@@ -13,6 +13,13 @@ pub(crate) fn join(note: &mut Note, part: Note)
     if let Some(fault) = part.first {
         note.add(true, fault);
     }
+}
+
+// Whether no fault was noted.
+pub(crate) fn is_clear(note: Note) -> bool
+    ensures { result ≡ is_none note.first }
+{
+    note.first.is_none()
 }
 
 pub(crate) fn both(a: bool, b: bool) -> bool

@@ -4,6 +4,7 @@
 pub mod clauses;
 pub mod directives;
 pub mod entries;
+pub mod items;
 pub mod joins;
 pub mod listing;
 pub mod names;
@@ -12,3 +13,5 @@ pub mod redeclarations;
 pub mod signed;
 pub mod steps;
 pub mod whole;
+
+pub use items::judge_directives;

@@ -7,13 +7,26 @@ ghost use Rattle.vk_ast.specs.Units.{ItemTree, function_of, item_of};
 ghost use Rattle.vk_rules_book.specs.Directives.{has_other_directives, redeclaration_faults};
 ghost use Rattle.vk_rules_book.specs.Faults.{first_among};
 ghost use Rattle.vk_rules_names.specs.Seen.{item_at, number_at};
-ghost use Rattle.vk_rules_directives.specs.Inner.Signed.{Agrees, AreSigned, others_at};
+ghost use Rattle.vk_rules_directives.specs.Inner.Signed.{Agrees, AreOwn, AreSigned, others_at};
 
 use crate::entries::directive_fault;
 use crate::signed::{Signed, differs};
 use vk_ast::{Function, Item, NameId};
 use vk_rules_names::{Note, Place};
 use vk_unit_rules::UnitRule;
+
+// Whether a function's directives are others than those of an item.
+fn differs_from(item: &Item, first: &Signed, f: &Function, own: &Signed) -> bool
+    requires first { AreOwn first.now item.now }
+    requires own { AreSigned own.now (function_of f.now) }
+    ensures { result ≡ has_other_directives (Some (item_of item.now)) (function_of f.now) }
+{
+    match item {
+        Item::Function(_g) => differs(first, own),
+        Item::Object(_) => false,
+        Item::Lost(_) => false,
+    }
+}
 
 // Whether a function's directives are others than those of the item with this number.
 fn differs_at(items: &[Item], signed: &[Signed], number: usize, f: &Function, own: &Signed) -> bool
@@ -23,8 +36,8 @@ fn differs_at(items: &[Item], signed: &[Signed], number: usize, f: &Function, ow
     ensures { result ≡ has_other_directives (option_map item_of (slice_get items.now number)) (function_of f.now) }
 {
     match items.get(number) {
-        Some(Item::Function(_)) => differs(&signed[number], own),
-        Some(Item::Object(_) | Item::Lost(_)) | None => false,
+        Some(item) => differs_from(item, &signed[number], f, own),
+        None => false,
     }
 }
 

@@ -186,6 +186,7 @@ fn judge_signature(
 }
 
 // Judges a directive behind others of its declaration, by their signatures.
+#[tactic(auto, using(vk_rules_book::proofs::Noting::among_none))]
 pub(crate) fn judge_whole(
     target: Target,
     f: &Function,
@@ -198,8 +199,11 @@ pub(crate) fn judge_whole(
     ensures { note.new.first ≡ first_among note.old.first
         (whole_faults_by target (head_of (function_of f.now)) (map seen earlier.now) (seen signature.now) (directive_of d.now)) }
 {
-    if let Some(s) = signature {
-        let h = head_of(f);
-        judge_signature(target, &h, earlier, s, d, note);
+    match signature {
+        Some(s) => {
+            let h = head_of(f);
+            judge_signature(target, &h, earlier, s, d, note);
+        }
+        None => {}
     }
 }

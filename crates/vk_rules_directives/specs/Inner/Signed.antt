@@ -74,14 +74,14 @@ differs first own = not (is_nil own) && ((list_all is_some first && list_all is_
 
 -- ---- the first declarations of functions
 
+-- the signatures of an item that is a function
+abbrev pub AreOwn : Signed → Item → Type 0
+AreOwn s item = (f : Function) → item ≡ AFunction f → AreSigned s (function_of f)
+
 -- of each item that is a function the list has the signatures
 abbrev pub Agrees : List Signed → List Item → Type 0
-Agrees signed items = (n : ℕ) (s : Signed) (f : Function) → slice_get signed n ≡ Some s → slice_get items n ≡ Some (AFunction f) → AreSigned s (function_of f)
+Agrees signed items = (n : ℕ) (s : Signed) (item : Item) → slice_get signed n ≡ Some s → slice_get items n ≡ Some item → AreOwn s item
 
 -- what a function's directives break behind a first declaration
 abbrev pub others_at : Option ItemTree → FunctionTree → List Fault
 others_at first f = cond (has_other_directives first f) (at_first D17 f.token f.directives) []
-
--- the signatures of an item that is a function
-abbrev pub AreOwn : Signed → Item → Type 0
-AreOwn s item = (f : Function) → item ≡ AFunction f → AreSigned s (function_of f)
