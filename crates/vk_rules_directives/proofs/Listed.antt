@@ -49,7 +49,7 @@ by_param f d earlier e = refl
 pub entry_by : (f : FunctionTree) (d : DirectiveTree) (earlier : List Entry) (e : Entry) (types : List (Option CType)) (shaped aligned : NameSet) → AreTypes types f.params
     → Holds shaped (is_listed false earlier) → Holds aligned (is_listed true earlier)
     → entry_faults f d earlier e ≡ entry_faults_by (type_at types e.name) (has shaped e.name) (has aligned e.name) d e
-entry_by f d earlier e types shaped aligned are by_shape by_aligned =
+entry_by f d earlier e types shape align are by_shape by_aligned =
     by_param f d earlier e ∙ by_type (param_of f.params e.name) _ _ d e
     ∙ ap (λ t. entry_faults_by t (is_listed false earlier e.name) (is_listed true earlier e.name) d e) (sym (are e.name))
     ∙ ap₂ (λ (s a : Bool). entry_faults_by (type_at types e.name) s a d e) (sym (by_shape e.name)) (sym (by_aligned e.name))
@@ -87,8 +87,8 @@ in_uniform id [] = refl
 in_uniform id (n ∷ ns) = ap (λ b. same_name n.name id || b) (in_uniform id ns)
 
 not_uniform : (id : NameId) (by : Listed) → is_uniform_list by ≡ false → (names : List PlacedName) → lists_uniform (map (entry_of by) names) id ≡ false
-not_uniform id by other [] = refl
-not_uniform id by other (n ∷ ns) = ap₂ (λ (a b : Bool). (a && same_name n.name id) || b) other (not_uniform id by other ns)
+not_uniform id by e [] = refl
+not_uniform id by e (n ∷ ns) = ap₂ (λ (a b : Bool). (a && same_name n.name id) || b) e (not_uniform id by e ns)
 
 said_uniform : (id : NameId) (s : Says) → lists_uniform (entries_said s) id ≡ is_in_uniform id s
 said_uniform id (simdlen e) = refl

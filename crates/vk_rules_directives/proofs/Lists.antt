@@ -13,16 +13,20 @@ use Rattle.vk_rules_book.specs.declared.faults.Fault.{Fault}
 use Rattle.vk_rules_book.specs.Faults.{first_among}
 use Rattle.vk_rules_book.specs.Noting.{found}
 use Rattle.vk_rules_book.specs.Rules.{Subject}
-use Rattle.vk_rules_book.specs.Visits.{Visit, along, directive, directives_part, directive_visits}
-use Rattle.vk_rules_book.specs.Scopes.{declares}
+use Rattle.vk_rules_book.specs.Visits.{Visit, along, directive, directives, directives_part, directive_visits}
+use Rattle.vk_rules_book.specs.Scopes.{declares, first_declaration}
+use Rattle.vk_rules_book.specs.Directives.{at_first, redeclaration_faults}
+use Rattle.vk_unit_rules.specs.declared.rules.UnitRule.{UnitRule}
+use Rattle.std.proofs.lemmas.Option.{slice_get-get_or}
+use Rattle.std.proofs.Math.ListN.{length-append}
 use Rattle.vk_rules_book.specs.Signatures.{head_of}
 use Rattle.vk_rules_book.proofs.Along.{along_push}
-use Rattle.vk_rules_book.proofs.Noting.{found_append, found_first, found_none}
+use Rattle.vk_rules_book.proofs.Noting.{among_none, found_append, found_first, found_none}
 use Rattle.vk_rules_names.specs.Seen.{AreFirst, number_at}
 use Rattle.vk_rules_directives.specs.declared.signed.Signed.{Signed}
 use Rattle.vk_rules_directives.specs.Inner.Joins.{joined}
 use Rattle.vk_rules_directives.specs.Inner.Marks.{form_visits, own_visits}
-use Rattle.vk_rules_directives.specs.Inner.Signed.{Agrees, AreOwn, all_signed, same_lists, same_option, seen, signed, whole_faults_by}
+use Rattle.vk_rules_directives.specs.Inner.Signed.{Agrees, AreOwn, others_at, same_lists, same_option, seen, signed, whole_faults_by}
 use Rattle.vk_rules_directives.proofs.Firsts.{found_joined}
 use Rattle.vk_rules_directives.proofs.Givens.{whole_by}
 use Rattle.vk_rules_directives.proofs.Pushes.{directive_push, grown}
@@ -80,10 +84,10 @@ pub all_more : (f : FunctionTree) (ds : List Directive) (k : ℕ) (d : Directive
     → new ≡ list_all is_some (map (signed f) (map directive_of (take (k + 1) ds)))
 all_more f ds k d s old new lt is so_far own more =
     more ∙ ap₂ (λ (b : Bool) (x : Option SignatureTree). b && is_some x) so_far own
-    ∙ sym (ap (list_all is_some) (signed_push f ds k d lt is) ∙ all_push _ _)
+    ∙ sym (ap (list_all is_some) (signed_push f ds k d lt is) ∙ all_push (map (signed f) (map directive_of (take k ds))) (signed f (directive_of d)))
 
 pub whole_list : {A : Type 0} (view : List Directive → A) (ds : List Directive) (k : ℕ) → length ds ≤ k → view (take k ds) ≡ view ds
-whole_list view ds k past = ap view (take_all ds k past)
+whole_list view ds k past = ap view (take_all k ds past)
 
 -- ---- lists that are alike
 
@@ -106,29 +110,64 @@ same_at xs ys k x y lt below is at =
 pub same_on : (xs ys : List (Option Signature)) (k : ℕ) (x y : Option Signature) (b so : Bool) → k < length xs → k < length ys → x ≡ get_or xs k x → y ≡ get_or ys k y
     → so ≡ same_lists (map seen (drop k xs)) (map seen (drop k ys)) → b ≡ same_option (seen x) (seen y) → b ≡ true
     → so ≡ same_lists (map seen (drop (k + 1) xs)) (map seen (drop (k + 1) ys))
-same_on xs ys k x y b so lt below is at told test yes = told ∙ same_at xs ys k x y lt below is at ∙ ap (λ b. b && same_lists (map seen (drop (k + 1) xs)) (map seen (drop (k + 1) ys))) (sym test ∙ yes)
+same_on xs ys k x y b so lt below is at told test fits = told ∙ same_at xs ys k x y lt below is at ∙ ap (λ b. b && same_lists (map seen (drop (k + 1) xs)) (map seen (drop (k + 1) ys))) (sym test ∙ fits)
 
 pub same_not : (xs ys : List (Option Signature)) (k : ℕ) (x y : Option Signature) (b so : Bool) → k < length xs → k < length ys → x ≡ get_or xs k x → y ≡ get_or ys k y
     → so ≡ same_lists (map seen (drop k xs)) (map seen (drop k ys)) → b ≡ same_option (seen x) (seen y) → b ≡ false → false ≡ so
-same_not xs ys k x y b so lt below is at told test no =
-    sym (told ∙ same_at xs ys k x y lt below is at ∙ ap (λ b. b && same_lists (map seen (drop (k + 1) xs)) (map seen (drop (k + 1) ys))) (sym test ∙ no))
+same_not xs ys k x y b so lt below is at told test fails =
+    sym (told ∙ same_at xs ys k x y lt below is at ∙ ap (λ b. b && same_lists (map seen (drop (k + 1) xs)) (map seen (drop (k + 1) ys))) (sym test ∙ fails))
 
 pub same_end : (xs ys : List (Option Signature)) (k : ℕ) (so : Bool) → length xs ≤ k → length ys ≤ k → so ≡ same_lists (map seen (drop k xs)) (map seen (drop k ys)) → true ≡ so
 same_end xs ys k so past over told =
-    sym (told ∙ ap₂ (λ (ps qs : List (Option Signature)). same_lists (map seen ps) (map seen qs)) (drop_all xs k past) (drop_all ys k over))
+    sym (told ∙ ap₂ (λ (ps qs : List (Option Signature)). same_lists (map seen ps) (map seen qs)) (drop_all k xs past) (drop_all k ys over))
 
 -- ---- items one after another
 
 pub agrees_more : (ss : List Signed) (items : List Item) (s : Signed) (x : Item) → length ss < length items → x ≡ get_or items (length ss) x → Agrees ss items → AreOwn s x
     → Agrees (ss ++ s ∷ []) items
-agrees_more [] [] s x lt is agrees own = absurd (omega (arith, lt))
+agrees_more [] [] s x lt is agrees own n t y e1 e2 = absurd (omega (arith, lt))
 agrees_more [] (i ∷ items) s x lt is agrees own zero t y e1 e2 =
     let same : s ≡ t = cc in let at : x ≡ y = cc in subst (λ (z : Signed). AreOwn z y) same (subst (AreOwn s) at own)
 agrees_more [] (i ∷ items) s x lt is agrees own (suc n) t y e1 e2 = cc
-agrees_more (r ∷ ss) [] s x lt is agrees own = absurd (omega (arith, lt))
+agrees_more (r ∷ ss) [] s x lt is agrees own n t y e1 e2 = absurd (omega (arith, lt))
 agrees_more (r ∷ ss) (i ∷ items) s x lt is agrees own zero t y e1 e2 = agrees zero t y e1 e2
 agrees_more (r ∷ ss) (i ∷ items) s x lt is agrees own (suc n) t y e1 e2 =
     agrees_more ss items s x (omega (arith, lt)) is (λ m u z a b. agrees (suc m) u z a b) own n t y e1 e2
+
+pub agrees_next : (ss : List Signed) (items : List Item) (k : ℕ) (s : Signed) (x : Item) → length ss ≡ k → k < length items → x ≡ get_or items k x → Agrees ss items → AreOwn s x
+    → Agrees (ss ++ s ∷ []) items
+agrees_next ss items k s x same lt is agrees own = agrees_more ss items s x (omega (arith, same, lt)) (is ∙ ap (λ n. get_or items n x) (sym same)) agrees own
+
+pub agrees_none : (ss : List Signed) (items : List Item) → ss ≡ [] → Agrees ss items
+agrees_none ss items is = subst (λ (rs : List Signed). Agrees rs items) (sym is) (λ n s item e1 e2. cc)
+
+pub count_next : (ss new : List Signed) (s : Signed) (k : ℕ) → length ss ≡ k → new ≡ ss ++ s ∷ [] → length new ≡ k + 1
+count_next ss new s k same more = ap length more ∙ length-append ss (s ∷ []) ∙ ap (λ n. n + 1) same
+
+pub item_is : (items : List Item) (n : ℕ) (x : Item) → n < length items → x ≡ get_or items n x → slice_get items n ≡ Some x
+item_is items n x lt is = slice_get-get_or items n x lt ∙ ap (λ (y : Item). Some y) (sym is)
+
+pub own_is : (ss : List Signed) (n : ℕ) (s : Signed) → n < length ss → s ≡ get_or ss n s → slice_get ss n ≡ Some s
+own_is ss n s lt is = slice_get-get_or ss n s lt ∙ ap (λ (r : Signed). Some r) (sym is)
+
+pub at_none : (rule : UnitRule) (token : ℕ) (ds : List Directive) (old : Option Fault) → length ds < 1 → old ≡ first_among old (at_first rule token (map directive_of ds))
+at_none rule token [] old none = sym (among_none old)
+at_none rule token (d ∷ ds) old none = absurd (omega (arith, none))
+
+redeclared : (before : List ItemTree) (f : FunctionTree) → redeclaration_faults before f ≡ others_at (first_declaration before f.name) f
+unfolding redeclaration_faults
+redeclared before f = refl
+
+pub function_noted : (unit : Subject) (f : FunctionTree) (before : List ItemTree) (first : Option ItemTree) (old middle part next : Option Fault) → next ≡ joined middle part
+    → middle ≡ first_among old (others_at first f) → part ≡ found unit None (directive_visits f [] f.directives) → first ≡ first_declaration before f.name
+    → next ≡ found unit old (directives before f ∷ directive_visits f [] f.directives)
+function_noted unit f before first old middle part next is noted own same =
+    is ∙ ap₂ joined (noted ∙ ap (λ i. first_among old (others_at i f)) same ∙ ap (first_among old) (sym (redeclared before f))) own
+    ∙ found_joined unit _ (directive_visits f [] f.directives) ∙ sym (found_first unit old (directives before f) (directive_visits f [] f.directives))
+
+pub nothing_noted : (unit : Subject) (before : List ItemTree) (x y : Item) (old : Option Fault) → x ≡ y → directives_part before (item_of y) ≡ []
+    → old ≡ found unit old (directives_part before (item_of x))
+nothing_noted unit before x y old is none = sym (ap (λ z. found unit old (directives_part before (item_of z))) is ∙ ap (found unit old) none ∙ found_none unit old)
 
 map_length : (xs : List Item) → length (map item_of xs) ≡ length xs
 map_length [] = refl

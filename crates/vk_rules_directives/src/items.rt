@@ -86,6 +86,13 @@ fn judge_function(
     Ok(own)
 }
 
+fn none_signed(alloc: Global) -> Signed {
+    Signed {
+        list: Vec::new(alloc),
+        all: true,
+    }
+}
+
 // Judges the directives of an item that is a function.
 fn judge_item(
     alloc: Global,
@@ -108,10 +115,8 @@ fn judge_item(
             let own = judge_function(alloc, place, tables, signed, f, note)?;
             Ok(own)
         }
-        Item::Object(_) | Item::Lost(_) => Ok(Signed {
-            list: Vec::new(alloc),
-            all: true,
-        }),
+        Item::Object(_) => Ok(none_signed(alloc)),
+        Item::Lost(_) => Ok(none_signed(alloc)),
     }
 }
 

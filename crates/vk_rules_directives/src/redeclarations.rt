@@ -3,15 +3,16 @@
 ghost use Rattle.std.specs.Prelude.{◌≡◌, ℕ, ◌<◌, List, length, map, slice_get, Some};
 ghost use Rattle.std.specs.Option.{option_map};
 ghost use Rattle.vk_ast.specs.Directives.{directive_of};
-ghost use Rattle.vk_ast.specs.Units.{ItemTree, function_of, item_of};
-ghost use Rattle.vk_rules_book.specs.Directives.{has_other_directives, redeclaration_faults};
+ghost use Rattle.vk_ast.specs.Units.{function_of, item_of};
+ghost use Rattle.vk_unit_rules.specs.declared.rules.UnitRule.TheVariants.{D17};
+ghost use Rattle.vk_rules_book.specs.Directives.{at_first, has_other_directives};
 ghost use Rattle.vk_rules_book.specs.Faults.{first_among};
 ghost use Rattle.vk_rules_names.specs.Seen.{item_at, number_at};
 ghost use Rattle.vk_rules_directives.specs.Inner.Signed.{Agrees, AreOwn, AreSigned, others_at};
 
 use crate::entries::directive_fault;
 use crate::signed::{Signed, differs};
-use vk_ast::{Function, Item, NameId};
+use vk_ast::{Directive, Function, Item};
 use vk_rules_names::{Note, Place};
 use vk_unit_rules::UnitRule;
 
@@ -35,9 +36,10 @@ fn differs_at(items: &[Item], signed: &[Signed], number: usize, f: &Function, ow
     requires own { AreSigned own.now (function_of f.now) }
     ensures { result ≡ has_other_directives (option_map item_of (slice_get items.now number)) (function_of f.now) }
 {
-    match items.get(number) {
-        Some(item) => differs_from(item, &signed[number], f, own),
-        None => false,
+    if number < items.len() {
+        differs_from(&items[number], &signed[number], f, own)
+    } else {
+        false
     }
 }
 
@@ -54,7 +56,19 @@ fn differs_from_first(place: &Place, signed: &[Signed], f: &Function, own: &Sign
     }
 }
 
+// Notes that D17 is broken, with the first of these directives.
+#[tactic(auto, using(vk_rules_book::proofs::Noting::among_none))]
+fn note_first(directives: &[Directive], token: u32, note: &mut Note)
+    ensures { note.new.first ≡ first_among note.old.first (at_first D17 token (map directive_of directives.now)) }
+{
+    match directives {
+        [] => {}
+        [d, ..] => note.add(true, directive_fault(d, token, UnitRule::D17)),
+    }
+}
+
 // Judges the directives of a function against those of its first declaration before this place.
+#[tactic(auto, using(vk_rules_book::proofs::Noting::among_none))]
 pub(crate) fn judge_redeclaration(
     place: &Place,
     signed: &[Signed],
@@ -68,7 +82,7 @@ pub(crate) fn judge_redeclaration(
     ensures { note.new.first ≡ first_among note.old.first (others_at (item_at place.now.items.now place.now.first.now f.now.name) (function_of f.now)) }
 {
     let other = differs_from_first(place, signed, f, own);
-    if let [d, ..] = &f.directives[..] {
-        note.add(other, directive_fault(d, f.token, UnitRule::D17));
+    if other {
+        note_first(&f.directives, f.token, note);
     }
 }
