@@ -1,5 +1,5 @@
 -- Constant steps by what tables say.
-use Rattle.std.proofs.Common.{◌≡◌, Bool, ◌||◌, List, Option, Some, None, refl, sym, ap, ◌∙◌, ℤ, pos}
+use Rattle.std.proofs.Common.{◌≡◌, ◌||◌, List, Option, Some, None, refl, ap, ◌∙◌, ℤ, pos}
 use Rattle.std.specs.List.{list_any}
 use Rattle.std.specs.Ordering.{int_eq}
 use Rattle.std.specs.Option.{option_and_then, option_map}
@@ -10,7 +10,7 @@ use Rattle.vk_ast.specs.declared.items.ParamDecl.{ParamDecl}
 use Rattle.vk_ast.specs.declared.directives.PlacedName.{PlacedName}
 use Rattle.vk_rules_book.specs.Directives.{is_too_great, is_wrong_step}
 use Rattle.vk_rules_book.specs.Signatures.{constant, param_of, pointee, pointee_of, scaled}
-use Rattle.vk_rules_directives.specs.Inner.Tables.{AreTypes, type_at}
+use Rattle.vk_rules_directives.specs.Inner.Tables.{AreTypes}
 use Rattle.vk_rules_directives.specs.Inner.Tests.{is_wrong_constant, pointee_at}
 
 by_case : (params : List ParamDecl) (id : NameId) (p : Option ParamDecl) → param_of params id ≡ p → option_and_then pointee (option_map (λ (p : ParamDecl). p.ctype) p) ≡ pointee_of params id

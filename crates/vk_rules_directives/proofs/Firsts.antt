@@ -1,5 +1,5 @@
 -- The first of some faults and of more is the first of the first ones.
-use Rattle.std.proofs.Common.{◌≡◌, ℕ, ◌==◌, Bool, true, false, cond, ◌&&◌, ◌||◌, nat_lt, List, [], ◌∷◌, ◌++◌, Option, Some, None, is_none, refl, sym, ap, ◌∙◌, arith}
+use Rattle.std.proofs.Common.{◌≡◌, ℕ, ◌==◌, Bool, true, false, cond, ◌&&◌, ◌||◌, nat_lt, List, [], ◌∷◌, Option, Some, None, is_none, refl, sym, ap, ◌∙◌, arith}
 use Rattle.std.proofs.lemmas.Bool.Decides.{nat_tests}
 use Rattle.vk_rules_book.specs.declared.faults.Fault.{Fault}
 use Rattle.vk_rules_book.specs.Faults.{first_among, first_of, is_before, rank_of}
@@ -7,7 +7,7 @@ use Rattle.vk_rules_book.specs.Directives.{is_empty}
 use Rattle.vk_rules_book.specs.Visits.{Visit}
 use Rattle.vk_rules_book.specs.Rules.{Subject, faults_at}
 use Rattle.vk_rules_book.specs.Noting.{found}
-use Rattle.vk_rules_book.proofs.Noting.{found_append, found_first, found_none}
+use Rattle.vk_rules_book.proofs.Noting.{found_first, found_none}
 use Rattle.vk_rules_directives.specs.Inner.Joins.{joined}
 
 abbrev before : ℕ → ℕ → ℕ → ℕ → Bool

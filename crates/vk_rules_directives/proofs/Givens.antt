@@ -1,8 +1,7 @@
 -- Whole directives by their signatures.
-use Rattle.std.proofs.Common.{◌≡◌, ℕ, suc, ◌≤◌, Bool, true, false, cond, ◌&&◌, ◌||◌, List, [], ◌∷◌, ◌++◌, map, length, Option, Some, None, refl, sym, ap, ap₂, ◌∙◌}
+use Rattle.std.proofs.Common.{◌≡◌, suc, ◌≤◌, Bool, true, false, cond, ◌&&◌, ◌||◌, List, [], ◌∷◌, ◌++◌, map, length, Option, Some, None, refl, sym, ap, ap₂, ◌∙◌}
 use Rattle.std.specs.List.{list_any}
 use Rattle.std.proofs.lemmas.Bool.{false≢true}
-use Rattle.vk_kinds.specs.declared.heads.CType.{CType}
 use Rattle.vk_kinds.specs.declared.kinds.Param.{Param}
 use Rattle.vk_kinds.specs.declared.kinds.Target.{Target}
 use Rattle.vk_kinds.specs.Sizes.{SignatureTree}
@@ -10,7 +9,6 @@ use Rattle.vk_ast.specs.declared.items.ParamDecl.{ParamDecl}
 use Rattle.vk_ast.specs.Directives.{DirectiveTree}
 use Rattle.vk_ast.specs.Units.{FunctionTree}
 use Rattle.vk_unit_rules.specs.declared.rules.UnitRule.TheVariants.{D18, D19}
-use Rattle.vk_rules_book.specs.declared.faults.Fault.{Fault}
 use Rattle.vk_rules_book.specs.Faults.{directive_fault, when}
 use Rattle.vk_rules_book.specs.Scopes.{types_of}
 use Rattle.vk_rules_book.specs.Signatures.{head_of, same_params, share_a_name, signature_of}

@@ -1,5 +1,5 @@
 -- Listed names by what tables say.
-use Rattle.std.proofs.Common.{◌≡◌, ℕ, ◌+◌, ◌<◌, Bool, true, false, cond, ◌&&◌, ◌||◌, not, map, List, [], ◌∷◌, ◌++◌, length, take, get_or, Option, Some, None, is_some, is_none, refl, sym, ap, ap₂, ◌∙◌}
+use Rattle.std.proofs.Common.{◌≡◌, ℕ, ◌+◌, ◌<◌, Bool, true, false, ◌&&◌, ◌||◌, not, map, List, [], ◌∷◌, ◌++◌, length, take, get_or, Option, Some, None, is_some, is_none, refl, sym, ap, ap₂, ◌∙◌}
 use Rattle.std.specs.List.{list_any}
 use Rattle.std.specs.Option.{option_map}
 use Rattle.vk_kinds.specs.declared.heads.CType.{CType}
@@ -24,7 +24,7 @@ use Rattle.vk_rules_book.specs.Directives.{all_entry_faults, entry_faults, is_al
 use Rattle.vk_rules_book.proofs.Noting.{found_append, found_one}
 use Rattle.vk_rules_signatures.proofs.Sound.{and_left, and_right, empty_append}
 use Rattle.vk_rules_directives.specs.declared.names.NameSet.{NameSet}
-use Rattle.vk_rules_directives.specs.Inner.Tables.{AreTypes, Holds, entry_of, has, lists_as, lists_uniform, names_one, nothing, type_at, type_of_param}
+use Rattle.vk_rules_directives.specs.Inner.Tables.{AreTypes, Holds, entry_of, has, lists_as, lists_uniform, names_one, nothing, type_at}
 use Rattle.vk_rules_directives.specs.Inner.Tests.{entry_faults_by}
 use Rattle.vk_rules_directives.proofs.Pushes.{any_push, entry_push, listed_push, taken}
 

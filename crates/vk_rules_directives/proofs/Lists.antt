@@ -13,7 +13,7 @@ use Rattle.vk_rules_book.specs.declared.faults.Fault.{Fault}
 use Rattle.vk_rules_book.specs.Faults.{first_among}
 use Rattle.vk_rules_book.specs.Noting.{found}
 use Rattle.vk_rules_book.specs.Rules.{Subject}
-use Rattle.vk_rules_book.specs.Visits.{Visit, along, directive, directives, directives_part, directive_visits}
+use Rattle.vk_rules_book.specs.Visits.{along, directive, directives, directives_part, directive_visits}
 use Rattle.vk_rules_book.specs.Scopes.{declares, first_declaration}
 use Rattle.vk_rules_book.specs.Directives.{at_first, redeclaration_faults}
 use Rattle.vk_unit_rules.specs.declared.rules.UnitRule.{UnitRule}

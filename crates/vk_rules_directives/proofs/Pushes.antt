@@ -1,14 +1,12 @@
 -- Clauses, names and directives one after another.
-use Rattle.std.proofs.Common.{◌≡◌, ℕ, ◌+◌, ◌<◌, Bool, true, false, ◌||◌, List, [], ◌∷◌, ◌++◌, map, flat_map, length, take, get_or, Option, refl, sym, ap, ap₂, ◌∙◌, append_assoc}
-use Rattle.std.specs.List.{list_any, list_all}
+use Rattle.std.proofs.Common.{◌≡◌, ℕ, ◌+◌, ◌<◌, Bool, true, false, ◌||◌, List, [], ◌∷◌, ◌++◌, map, flat_map, length, take, get_or, refl, sym, ap, ◌∙◌, append_assoc}
+use Rattle.std.specs.List.{list_any}
 use Rattle.std.proofs.lemmas.List.{append-nil, take_more}
 use Rattle.std.proofs.lemmas.Grind.{flat_map-append}
 use Rattle.vk_ast.specs.Directives.{ClauseTree, DirectiveTree}
 use Rattle.vk_ast.specs.Units.{FunctionTree}
-use Rattle.vk_ast.specs.declared.directives.PlacedName.{PlacedName}
-use Rattle.vk_rules_book.specs.declared.faults.Fault.{Fault}
 use Rattle.vk_rules_book.specs.declared.lists.Entry.{Entry}
-use Rattle.vk_rules_book.specs.Visits.{Visit, clause, clause_visits, directive, directive_visits, entry, entry_visits, entries_of}
+use Rattle.vk_rules_book.specs.Visits.{clause, clause_visits, directive, directive_visits, entry, entry_visits, entries_of}
 use Rattle.vk_rules_directives.specs.Inner.Marks.{own_visits}
 use Rattle.vk_rules_book.specs.Directives.{all_entry_faults, all_said_faults, entry_faults, said_faults}
 

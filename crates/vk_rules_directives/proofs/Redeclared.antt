@@ -1,13 +1,13 @@
 -- The directives of a later declaration against those of the first one.
-use Rattle.std.proofs.Common.{◌≡◌, ℕ, zero, suc, ◌+◌, ◌<◌, Bool, true, false, cond, ◌&&◌, not, List, [], ◌∷◌, ◌++◌, map, length, slice_get, Option, Some, None, is_some, refl, sym, ap, ap₂, ◌∙◌, arith}
+use Rattle.std.proofs.Common.{◌≡◌, ℕ, suc, ◌+◌, ◌<◌, Bool, true, false, cond, ◌&&◌, not, List, [], ◌∷◌, map, length, Option, Some, None, is_some, refl, sym, ap, ap₂, ◌∙◌, arith}
 use Rattle.std.specs.List.{list_all, position_from}
 use Rattle.std.proofs.lemmas.Bool.{false≢true}
 use Rattle.vk_kinds.specs.Sizes.{SignatureTree}
 use Rattle.vk_ast.specs.Directives.{DirectiveTree}
-use Rattle.vk_ast.specs.Units.{FunctionTree, ItemTree, function}
+use Rattle.vk_ast.specs.Units.{FunctionTree, function}
 use Rattle.vk_rules_book.specs.Scopes.{has_directives}
 use Rattle.vk_rules_book.specs.Signatures.{same_signature, same_signatures, signature_of}
-use Rattle.vk_rules_book.specs.Directives.{has_other_directives, has_signature, have_signatures, signatures}
+use Rattle.vk_rules_book.specs.Directives.{has_other_directives, has_signature, have_signatures}
 use Rattle.vk_rules_directives.specs.declared.signed.Signed.{Signed}
 use Rattle.vk_rules_directives.specs.Inner.Signed.{AreSigned, all_signed, differs, is_nil, list_seen, same_lists, same_option, signed}
 

@@ -1,5 +1,5 @@
 -- Clauses by what stands before them.
-use Rattle.std.proofs.Common.{◌≡◌, ℕ, ◌+◌, ◌<◌, Bool, ◌&&◌, ◌||◌, map, List, [], ◌∷◌, ◌++◌, length, take, get_or, Option, refl, sym, ap, ap₂, ◌∙◌}
+use Rattle.std.proofs.Common.{◌≡◌, ℕ, ◌+◌, ◌<◌, Bool, ◌&&◌, ◌||◌, map, List, [], ◌++◌, length, take, get_or, Option, refl, sym, ap, ap₂, ◌∙◌}
 use Rattle.vk_ast.specs.declared.directives.PlacedName.{PlacedName}
 use Rattle.vk_unit_rules.specs.declared.rules.UnitRule.TheVariants.{C16}
 use Rattle.vk_rules_book.specs.declared.faults.Fault.{Fault}

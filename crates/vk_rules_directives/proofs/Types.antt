@@ -1,5 +1,5 @@
 -- Tables of the types of parameters.
-use Rattle.std.proofs.Common.{◌≡◌, ◌≢◌, ℕ, ◌+◌, ◌<◌, ◌≤◌, ◌==◌, Bool, true, false, cond, ◌||◌, take, List, [], ◌∷◌, ◌++◌, length, get_or, slice_set, slice_get, unwrap_or, Option, Some, None, refl, sym, subst, ap, ap₂, ◌∙◌, arith, get_or-set_other, get_or-set_same}
+use Rattle.std.proofs.Common.{◌≡◌, ◌≢◌, ℕ, ◌+◌, ◌<◌, ◌≤◌, ◌==◌, Bool, true, false, cond, ◌||◌, take, List, [], ◌∷◌, ◌++◌, length, get_or, slice_set, slice_get, unwrap_or, Option, Some, None, refl, sym, ap, ap₂, ◌∙◌, arith, get_or-set_other, get_or-set_same}
 use Rattle.std.specs.Option.{option_or, option_map}
 use Rattle.std.proofs.lemmas.Bool.Decides.{nat_tests}
 use Rattle.std.proofs.lemmas.Option.{unwrap_or-slice_get}

@@ -250,12 +250,7 @@ fn judge_clause(
 }
 
 // Judges the clauses of a directive, one after another; the answer is whether they break no rule of their form.
-pub(crate) fn judge_clauses(
-    at: &At,
-    uniform: &NameSet,
-    clauses: &[Clause],
-    note: &mut Note,
-) -> bool
+pub(crate) fn judge_clauses(at: &At, uniform: &NameSet, clauses: &[Clause], note: &mut Note) -> bool
     requires types { AreTypes at.now.types.now at.now.f.now.params.items }
     requires uniform { Holds uniform.now (is_uniform (directive_of at.now.d.now)) }
     ensures noted { note.new.first ≡ found (unit_of at.now.place.now) note.old.first

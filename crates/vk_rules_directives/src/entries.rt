@@ -71,7 +71,10 @@ fn judge_listed(
 {
     let aligned = is_aligned(e.listed);
     note.add(ctype.is_none(), directive_fault(d, e.token, UnitRule::D2));
-    note.add(!aligned && by_shape, directive_fault(d, e.token, UnitRule::D3));
+    note.add(
+        !aligned && by_shape,
+        directive_fault(d, e.token, UnitRule::D3),
+    );
     note.add(
         aligned && (ctype.is_some() && !is_pointer(ctype)),
         directive_fault(d, e.token, UnitRule::D8),
@@ -97,13 +100,7 @@ pub(crate) struct At<'p, 'u, 'f, 'd, 't> {
 
 // Judges a listed name behind those of these sets; the answer is whether it breaks no rule.
 #[tactic(auto, using(crate::proofs::Firsts::among_joined, crate::proofs::Firsts::none_among))]
-fn judge_entry(
-    at: &At,
-    shaped: &NameSet,
-    aligned: &NameSet,
-    e: Entry,
-    note: &mut Note,
-) -> bool
+fn judge_entry(at: &At, shaped: &NameSet, aligned: &NameSet, e: Entry, note: &mut Note) -> bool
     ensures noted { note.new.first ≡ first_among note.old.first
         (entry_faults_by (type_at at.now.types.now e.name) (has shaped.now e.name) (has aligned.now e.name) (directive_of at.now.d.now) e) }
     ensures sound { result ≡ is_empty (entry_faults_by (type_at at.now.types.now e.name) (has shaped.now e.name) (has aligned.now e.name) (directive_of at.now.d.now) e) }

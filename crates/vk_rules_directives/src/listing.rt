@@ -17,11 +17,7 @@ use vk_ast::{Clause, ClauseKind, Memory, PlacedName};
 use vk_rules_book::{Entry, Listed};
 
 // Adds the names of a list.
-fn push_names(
-    entries: &mut Vec<Entry>,
-    names: &[PlacedName],
-    listed: Listed,
-) -> Result<(), Memory>
+fn push_names(entries: &mut Vec<Entry>, names: &[PlacedName], listed: Listed) -> Result<(), Memory>
     ensures { OnOk result (entries.new.items ≡ entries.old.items ++ map (entry_of listed) names.now) }
 {
     for n in names {
@@ -42,10 +38,8 @@ fn push_said(entries: &mut Vec<Entry>, says: &ClauseKind) -> Result<(), Memory>
         ClauseKind::Uniform(names) => push_names(entries, names, Listed::Uniform),
         ClauseKind::Aligned(names, _) => push_names(entries, names, Listed::Aligned),
         ClauseKind::Linear(names, _, _) => push_names(entries, names, Listed::Linear),
-        ClauseKind::Simdlen(_)
-        | ClauseKind::Inside
-        | ClauseKind::Outside
-        | ClauseKind::Other => push_names(entries, &[], Listed::Uniform),
+        ClauseKind::Simdlen(_) | ClauseKind::Inside | ClauseKind::Outside | ClauseKind::Other =>
+            push_names(entries, &[], Listed::Uniform),
     }
 }
 

@@ -88,11 +88,7 @@ fn reach(types: &mut Vec<Option<CType>>, place: usize) -> Result<(), Memory>
 }
 
 // Sets what the table has for a name.
-fn set_type(
-    types: &mut Vec<Option<CType>>,
-    id: NameId,
-    ctype: Option<CType>,
-) -> Result<(), Memory>
+fn set_type(types: &mut Vec<Option<CType>>, id: NameId, ctype: Option<CType>) -> Result<(), Memory>
     ensures { OnOk result ((other : NameId) → type_at types.new.items other ≡ cond (same_name id other) ctype (type_at types.old.items other)) }
 {
     let place = id.0 as usize;

@@ -13,7 +13,9 @@ ghost use Rattle.vk_rules_directives.specs.Inner.Signed.{gives_too, same_option,
 use crate::entries::directive_fault;
 use crate::joins::either;
 use vk_ast::{Directive, Function};
-use vk_kinds::{Branch, Head, Kind, Length, Param, Signature, Step, Target, has_sve_width, lengths};
+use vk_kinds::{
+    Branch, Head, Kind, Length, Param, Signature, Step, Target, has_sve_width, lengths,
+};
 use vk_rules_names::Note;
 use vk_rules_signatures::head_of;
 use vk_unit_rules::UnitRule;

@@ -1,6 +1,5 @@
 -- What the sets of names say between directives, and what is visited of one directive.
-use Rattle.std.specs.Prelude.{◌≡◌, Bool, true, false, ◌&&◌, List, [], ◌∷◌, ◌++◌}
-use Rattle.vk_ast.specs.declared.names.NameId.{NameId}
+use Rattle.std.specs.Prelude.{Bool, true, false, ◌&&◌, List, [], ◌∷◌, ◌++◌}
 use Rattle.vk_ast.specs.Directives.{DirectiveTree}
 use Rattle.vk_ast.specs.Units.{FunctionTree}
 use Rattle.vk_rules_book.specs.declared.lists.Entry.{Entry}

@@ -1,16 +1,15 @@
 -- The tests of the rules, by what tables and earlier clauses say.
-use Rattle.std.specs.Prelude.{◌≡◌, ℕ, ◌*◌, Bool, true, false, ◌&&◌, ◌||◌, not, List, [], ◌∷◌, ◌++◌, nat_lt, Option, Some, None, is_none, is_some, ℤ, pos, unsigned_abs}
+use Rattle.std.specs.Prelude.{ℕ, Bool, true, false, ◌&&◌, ◌||◌, not, List, ◌++◌, Option, Some, None, is_none, is_some, ℤ, pos}
 use Rattle.std.specs.Ordering.{int_eq}
 use Rattle.std.specs.List.{list_any}
 use Rattle.std.specs.Option.{option_and_then}
 use Rattle.vk_types.specs.declared.types.Ty.{Ty}
 use Rattle.vk_kinds.specs.declared.heads.CType.{CType}
-use Rattle.vk_kinds.specs.declared.heads.CType.TheVariants.{Int, Ptr}
+use Rattle.vk_kinds.specs.declared.heads.CType.TheVariants.{Int}
 use Rattle.vk_kinds.specs.Sizes.{bytes_of}
 use Rattle.vk_ast.specs.declared.names.NameId.{NameId}
 use Rattle.vk_ast.specs.declared.directives.PlacedName.{PlacedName}
-use Rattle.vk_ast.specs.Directives.{Says, linear, ClauseTree, DirectiveTree}
-use Rattle.vk_ast.specs.Tree.{Tree, name}
+use Rattle.vk_ast.specs.Directives.{ClauseTree, DirectiveTree}
 use Rattle.vk_unit_rules.specs.declared.rules.UnitRule.TheVariants.{D1, D2, D3, D4, D5, D6, D7, D8, D9, D10, D11, D13, D14}
 use Rattle.vk_rules_book.specs.declared.faults.Fault.{Fault}
 use Rattle.vk_rules_book.specs.declared.lists.Entry.{Entry}

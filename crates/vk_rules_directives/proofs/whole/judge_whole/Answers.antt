@@ -1,5 +1,5 @@
-use Rattle.std.proofs.Common.{◌≡◌, Some, length, sym, ap, ◌∙◌}
-use Rattle.vk_kinds.specs.Sizes.{HeadTypes, signature_tree}
+use Rattle.std.proofs.Common.{length, sym, ap, ◌∙◌}
+use Rattle.vk_kinds.specs.Sizes.{HeadTypes}
 use Rattle.vk_ast.specs.Directives.{directive_of}
 use Rattle.vk_ast.specs.Units.{function_of}
 use Rattle.vk_rules_directives.specs.Inner.Signed.{seen}
