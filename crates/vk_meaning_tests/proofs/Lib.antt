@@ -1,0 +1,5 @@
+mod Forms
+mod Functions
+mod Programs
+mod Order
+mod Guards
