@@ -101,22 +101,22 @@ bases = unit_of (codes "y" ∷ codes "x" ∷ codes "s" ∷ codes "c" ∷ codes "
     ∷ [])
 
 -- the arrays in their order: c, s, x, y
-guard_fails_in_last_loop : told (means (bases ∷ []) 20 (codes "stores") (pointer 3 (pos 0) ∷ pointer 2 (pos 0) ∷ pointer 0 (pos 0) ∷ number (pos 2) ∷ []) zeros)
-    ≡ tells [] (loop 1 2 true ∷ loop 2 2 true ∷ loop 3 2 false ∷ []) None
+guard_fails_in_last_loop : told (means (bases ∷ []) 20 (codes "stores") (pointer 3 (pos 0) ∷ pointer 2 (pos 0) ∷ pointer 0 (pos 0) ∷ number (pos 1) ∷ []) zeros)
+    ≡ tells [] (loop 1 1 true ∷ loop 2 1 true ∷ loop 3 1 false ∷ []) None
 unfolding int_wrap from_bits first_declaration last_binding meaning_of with_params are_arguments choice_typing length_of constant_of
 guard_fails_in_last_loop = refl
 
-guard_fails_in_no_loop : told (means (bases ∷ []) 20 (codes "stores") (pointer 3 (pos 0) ∷ pointer 1 (pos 0) ∷ pointer 1 (pos 0) ∷ number (pos 2) ∷ []) zeros)
-    ≡ tells [] (loop 1 2 true ∷ loop 2 2 true ∷ loop 3 2 true ∷ []) None
+guard_fails_in_no_loop : told (means (bases ∷ []) 20 (codes "stores") (pointer 3 (pos 0) ∷ pointer 1 (pos 0) ∷ pointer 1 (pos 0) ∷ number (pos 1) ∷ []) zeros)
+    ≡ tells [] (loop 1 1 true ∷ loop 2 1 true ∷ loop 3 1 true ∷ []) None
 unfolding int_wrap from_bits first_declaration last_binding meaning_of with_params are_arguments choice_typing length_of constant_of
 guard_fails_in_no_loop = refl
 
-guard_fails_in_first_loop : told (means (bases ∷ []) 20 (codes "stores") (pointer 1 (pos 0) ∷ pointer 0 (pos 0) ∷ pointer 1 (pos 0) ∷ number (pos 2) ∷ []) zeros)
-    ≡ tells [] (loop 1 2 false ∷ loop 2 2 true ∷ loop 3 2 true ∷ []) None
+guard_fails_in_first_loop : told (means (bases ∷ []) 20 (codes "stores") (pointer 1 (pos 0) ∷ pointer 0 (pos 0) ∷ pointer 1 (pos 0) ∷ number (pos 1) ∷ []) zeros)
+    ≡ tells [] (loop 1 1 false ∷ loop 2 1 true ∷ loop 3 1 true ∷ []) None
 unfolding int_wrap from_bits first_declaration last_binding meaning_of with_params are_arguments choice_typing length_of constant_of
 guard_fails_in_first_loop = refl
 
-guard_fails_in_second_loop : told (means (bases ∷ []) 20 (codes "stores") (pointer 0 (pos 0) ∷ pointer 3 (pos 0) ∷ pointer 3 (pos 0) ∷ number (pos 2) ∷ []) zeros)
-    ≡ tells [] (loop 1 2 true ∷ loop 2 2 false ∷ loop 3 2 true ∷ []) None
+guard_fails_in_second_loop : told (means (bases ∷ []) 20 (codes "stores") (pointer 0 (pos 0) ∷ pointer 3 (pos 0) ∷ pointer 3 (pos 0) ∷ number (pos 1) ∷ []) zeros)
+    ≡ tells [] (loop 1 1 true ∷ loop 2 1 false ∷ loop 3 1 true ∷ []) None
 unfolding int_wrap from_bits first_declaration last_binding meaning_of with_params are_arguments choice_typing length_of constant_of
 guard_fails_in_second_loop = refl
