@@ -50,6 +50,14 @@ IsKnown v arrays false d = IsReadable v d
 abbrev pub IsFine : Sight → List Array → CType → Datum → Type 0
 IsFine v arrays t d = IsKnown v arrays (is_written_type t) d
 
+readable_seen : (v : Sight) (arrays : List Array) (d : Datum) → IsReadable v d → (i : ℕ) → named_element arrays d ≡ Some i → v.Seen (array_of d) i
+readable_seen v arrays (number z) p i e = cc
+readable_seen v arrays (pointer a o) p i e = p i
+readable_seen v arrays nothing p i e = cc
+
+plus_zero : (o : ℤ) → o +ℤ pos 0 ≡ o
+plus_zero o = omega (arith, ints)
+
 module _ {v : Sight} where
   -- ---- values
 
@@ -81,3 +89,61 @@ module _ {v : Sight} where
   pub keeps_answered : (r : Result ℤ Stop) → Keeps v (IsReadable v) (answered r)
   keeps_answered (Ok z) = record { from = λ w w' h. both_got (number z) w w' tt h }
   keeps_answered (Err s) = record { from = λ w w' h. both_halt s w w' h }
+
+  -- ---- pointers
+
+  keeps_pointer_at : (fits : Bool) (a : ℕ) (o : ℤ) → IsReadable v (pointer a o) → Keeps v (IsReadable v) (pointer_at fits a o)
+  keeps_pointer_at true a o p = record { from = λ w w' h. both_got (pointer a o) w w' p h }
+  keeps_pointer_at false a o p = record { from = λ w w' h. both_halt Bounds w w' h }
+
+  halts_bounds : {P : Datum → Type 0} → Keeps v P (λ w. halts Bounds w)
+  halts_bounds = record { from = λ w w' h. both_halt Bounds w w' h }
+
+  -- a pointer that is moved may be read as before
+  pub keeps_moved : (d : Datum) (n : ℤ) → IsReadable v d → Keeps v (IsReadable v) (moved d n)
+  keeps_moved (number z) n p = halts_bounds
+  keeps_moved (pointer a o) n p = keeps_pointer_at (fits_offset (o +ℤ n)) a (o +ℤ n) p
+  keeps_moved nothing n p = halts_bounds
+
+  -- a load of an element that may be read
+  keeps_loaded : (arrays : List Array) (t : Ty) (d : Datum) → ((i : ℕ) → named_element arrays d ≡ Some i → v.Seen (array_of d) i) → Keeps v (IsReadable v) (loaded arrays t d)
+  keeps_loaded arrays t d p = record { from = λ w w' h. go w w' h (named_element arrays d) refl }
+    where
+      load : ℕ → Action
+      load i u = got (number (wrap_number t (number_of (array_at arrays (array_of d)).ty (u.memory (array_of d) i)))) u
+
+      same : (w w' : World) → v.Alike w w' → (i : ℕ) → v.Seen (array_of d) i → AlikeValues v (IsReadable v) (load i w) (load i w')
+      same w w' h i seen = subst (λ x. AlikeValues v (IsReadable v) (load i w) (got (number (wrap_number t (number_of (array_at arrays (array_of d)).ty x))) w'))
+          (v.reads w w' h (array_of d) i seen) (both_got (number (wrap_number t (number_of (array_at arrays (array_of d)).ty (w.memory (array_of d) i)))) w w' tt h)
+
+      go : (w w' : World) → v.Alike w w' → (e : Option ℕ) → named_element arrays d ≡ e → AlikeValues v (IsReadable v) (at_element e load w) (at_element e load w')
+      go w w' h None e = both_halt Bounds w w' h
+      go w w' h (Some i) e = same w w' h i (p i e)
+
+  pub keeps_read : (arrays : List Array) (t : Ty) (d : Datum) → IsReadable v d → Keeps v (IsReadable v) (loaded arrays t d)
+  keeps_read arrays t d p = keeps_loaded arrays t d (readable_seen v arrays d p)
+
+  pub keeps_own : (arrays : List Array) (t : Ty) (d : Datum) → IsOwned v arrays d → Keeps v (IsReadable v) (loaded arrays t d)
+  keeps_own arrays t d p = keeps_loaded arrays t d (λ i e. v.own_seen (array_of d) i (p i e))
+
+  -- a store to an element that may be written
+  pub keeps_stored : (arrays : List Array) (d : Datum) (z : ℤ) → IsOwned v arrays d → Keeps v (IsReadable v) (stored arrays d z)
+  keeps_stored arrays d z p = record { from = λ w w' h. go w w' h (named_element arrays d) refl }
+    where
+      store : ℕ → Action
+      store i u = got nothing (in_memory u (with_cell u.memory (array_of d) i (word_of (wrap_number (array_at arrays (array_of d)).ty z))))
+
+      go : (w w' : World) → v.Alike w w' → (e : Option ℕ) → named_element arrays d ≡ e → AlikeValues v (IsReadable v) (at_element e store w) (at_element e store w')
+      go w w' h None e = both_halt Bounds w w' h
+      go w w' h (Some i) e = both_got nothing _ _ tt (v.writes w w' h (array_of d) i _ (p i e))
+
+  keeps_here : (arrays : List Array) (fits : Bool) (a : ℕ) (o : ℤ) → IsOwned v arrays (pointer a o) → Keeps v (IsOwned v arrays) (pointer_at fits a o)
+  keeps_here arrays true a o p = record { from = λ w w' h. both_got (pointer a o) w w' p h }
+  keeps_here arrays false a o p = halts_bounds
+
+  -- a pointer that is moved by 0 is the same
+  pub keeps_still : (arrays : List Array) (d : Datum) → IsOwned v arrays d → Keeps v (IsOwned v arrays) (moved d (pos 0))
+  keeps_still arrays (number z) p = halts_bounds
+  keeps_still arrays (pointer a o) p =
+      subst (λ x. Keeps v (IsOwned v arrays) (pointer_at (fits_offset x) a x)) (sym (plus_zero o)) (keeps_here arrays (fits_offset o) a o p)
+  keeps_still arrays nothing p = halts_bounds
