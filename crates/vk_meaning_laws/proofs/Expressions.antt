@@ -50,36 +50,14 @@ free_known v all arrays false d = free_readable v all d
 
 -- ---- variables
 
--- the variables that are numbered from k on are fine
-abbrev pub HaveFine : Sight → List Array → (k : ℕ) → List Binding → Variables → Type 0
-HaveFine v arrays k [] vs = Unit {0}
-HaveFine v arrays k (b ∷ bs) vs = IsFine v arrays b.ctype (vs k) × HaveFine v arrays (k + 1) bs vs
+-- the variables that are visible in a scope are fine
+abbrev pub HaveFine : Sight → List Array → Scope → Variables → Type 0
+HaveFine v arrays scope vs = (id : NameId) (x : Variable) → variable_named scope id ≡ Some x → IsFine v arrays x.ctype (vs x.number)
 
 -- arguments for parameters of these types
 abbrev pub AreFine : Sight → List Array → List CType → List Datum → Type 0
 AreFine v arrays ts [] = Unit {0}
 AreFine v arrays ts (d ∷ ds) = IsFine v arrays (next_type ts) d × AreFine v arrays (next_types ts) ds
-
-abbrev else_this : Variable → Option Variable → Variable
-else_this x None = x
-else_this x (Some y) = y
-
-pub fine_among : (v : Sight) (arrays : List Array) (k : ℕ) (bs : List Binding) (vs : Variables) (id : NameId) (x : Variable) → HaveFine v arrays k bs vs → variable_among k bs id ≡ Some x →
-    IsFine v arrays x.ctype (vs x.number)
-fine_among v arrays k [] vs id x h e = cc
-fine_among v arrays k (b ∷ bs) vs id x h e = go (variable_among (k + 1) bs id) (same_name b.name id) (fine_among v arrays (k + 1) bs vs id x h.1) e
-  where
-    here : Variable
-    here = record { number = k; ctype = b.ctype }
-
-    go : (o : Option Variable) (same : Bool) → (o ≡ Some x → IsFine v arrays x.ctype (vs x.number)) → option_or o (cond same (Some here) None) ≡ Some x → IsFine v arrays x.ctype (vs x.number)
-    go (Some y) same next f = next f
-    go None true next f = subst (λ (y : Variable). IsFine v arrays y.ctype (vs y.number)) (ap (else_this here) f) h.0
-    go None false next f = cc
-
-pub free_variables : (v : Sight) → Free v → (arrays : List Array) (k : ℕ) (bs : List Binding) (vs : Variables) → HaveFine v arrays k bs vs
-free_variables v all arrays k [] vs = tt
-free_variables v all arrays k (b ∷ bs) vs = (free_known v all arrays (is_written_type b.ctype) (vs k), free_variables v all arrays (k + 1) bs vs)
 
 fine_read : (v : Sight) (arrays : List Array) (t : CType) (d : Datum) → is_written_type t ≡ false → IsFine v arrays t d → IsReadable v d
 fine_read v arrays t d e h = subst (λ (b : Bool). IsKnown v arrays b d) e h
@@ -211,7 +189,7 @@ zero_in_range U64 = search rules
 pub record Stands (v : Sight) (c : Context) (file : NameId → Option Meaning) (lane : NameId → Bool) (scope : Scope) (vs : Variables) : Type 0 where
   pub sees : Sees v c file lane
   pub same : scope.file ≡ file
-  pub fine : HaveFine v c.arrays 0 scope.inner vs
+  pub fine : HaveFine v c.arrays scope vs
 
 module _ {v : Sight} {c : Context} {file : NameId → Option Meaning} {lane : NameId → Bool} {scope : Scope} {vs : Variables} (st : Stands v c file lane scope vs) where
   keeps_name : (id : NameId) (x : Option Variable) → variable_named scope id ≡ x → Allowed v (IsTameName x (meaning_of scope id)) → Keeps v (IsReadable v) (name_value c scope vs x id)
@@ -225,7 +203,7 @@ module _ {v : Sight} {c : Context} {file : NameId → Option Meaning} {lane : Na
       free_object f (Some (a_function r ps is_simd)) = keeps_given nothing tt
   keeps_name id (Some x) e (free all) = keeps_given (vs x.number) (free_readable v all (vs x.number))
   keeps_name id None e (tame h) = keeps_object c.arrays (c.array id) (meaning_of scope id) (λ k. const_seen v c file lane st.sees scope st.same id k) h
-  keeps_name id (Some x) e (tame h) = keeps_given (vs x.number) (fine_read v c.arrays x.ctype (vs x.number) h (fine_among v c.arrays 0 scope.inner vs id x st.fine e))
+  keeps_name id (Some x) e (tame h) = keeps_given (vs x.number) (fine_read v c.arrays x.ctype (vs x.number) h (st.fine id x e))
 
   -- the name of a pointer that may be written gives that pointer
   pub keeps_written : (e : Tree) → is_written_name scope e ≡ true → Keeps v (IsOwned v c.arrays) (value_of c scope vs e)
@@ -233,7 +211,7 @@ module _ {v : Sight} {c : Context} {file : NameId → Option Meaning} {lane : Na
     where
       go : (x : Option Variable) → variable_named scope id ≡ x → is_written_variable x ≡ true → Keeps v (IsOwned v c.arrays) (name_value c scope vs x id)
       go None e w = cc
-      go (Some x) e w = keeps_given (vs x.number) (fine_own v c.arrays x.ctype (vs x.number) w (fine_among v c.arrays 0 scope.inner vs id x st.fine e))
+      go (Some x) e w = keeps_given (vs x.number) (fine_own v c.arrays x.ctype (vs x.number) w (st.fine id x e))
   keeps_written e h = cc
 
   -- `p[0]`

@@ -1,2 +1,3 @@
 mod Sights
 mod Expressions
+mod Variables
