@@ -272,7 +272,7 @@ module _ {v : Sight} {c : Context} {file : NameId → Option Meaning} {lane : Na
     keeps_value (call l k id arguments) h =
         keeps_arguments (wanted_types (meaning_of scope id)) arguments [] (c.call id) (allow (λ t. t.2) h) (keeps_called id arguments h)
 
-    keeps_address : (e : Tree) → Allowed v (IsTamePlace lane scope e) → Keeps v (IsReadable v) (address_of c scope vs e)
+    pub keeps_address : (e : Tree) → Allowed v (IsTamePlace lane scope e) → Keeps v (IsReadable v) (address_of c scope vs e)
     keeps_address (name l k id) h = keeps_object_address id h
     keeps_address (index l k base subscript) h = keeps_subscripted (keeps_value base (allow (λ t. t.0) h)) (keeps_value subscript (allow (λ t. t.1) h))
     keeps_address (deref l k operand) h = keeps_value operand h

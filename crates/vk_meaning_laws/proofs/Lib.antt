@@ -1,3 +1,5 @@
 mod Sights
 mod Expressions
 mod Variables
+mod Effects
+mod Statements
