@@ -8,7 +8,6 @@ use Rattle.vk_types.specs.Numbers.{wrap_number}
 use Rattle.vk_types.specs.Operators.{truth}
 use Rattle.vk_types.specs.Conversions.{common_type}
 use Rattle.vk_kinds.specs.declared.heads.CType.{CType}
-use Rattle.vk_kinds.specs.declared.heads.CType.TheVariants.{Void}
 use Rattle.vk_ast.specs.declared.names.NameId.{NameId}
 use Rattle.vk_ast.specs.declared.expressions.BinOp.{BinOp}
 use Rattle.vk_ast.specs.declared.expressions.BinOp.TheVariants.{Sub, LogAnd, LogOr}
@@ -18,6 +17,7 @@ use Rattle.vk_rules_book.specs.declared.typings.Typing.{Typing}
 use Rattle.vk_rules_book.specs.declared.typings.Typing.TheVariants.{Number, Variable as AVariable, Cell, Pointer, Nothing, Function, Untyped}
 use Rattle.vk_rules_book.specs.Scopes.{Scope, Meaning, an_object, meaning_of}
 use Rattle.vk_rules_book.specs.Typings.{number_type, moves_left, moves_right, wanted_types, typing_of}
+use Rattle.vk_meaning.specs.Types.{next_type, next_types}
 use Rattle.vk_meaning.specs.World.{Array}
 use Rattle.vk_meaning.specs.Data.{Datum, number, pointer, nothing, number_in, as_type, got, halts, Action, given, and_then, then_number, moved, loaded}
 use Rattle.vk_meaning.specs.Points.{Variable, variable_named}
@@ -108,15 +108,6 @@ abbrev pub converted : Ty → Action → Action
 converted t e = then_number e (λ z. given (number (wrap_number t z)))
 
 -- ---- expressions
-
--- the first type of a list, and those behind it
-abbrev pub next_type : List CType → CType
-next_type [] = Void
-next_type (t ∷ ts) = t
-
-abbrev pub next_types : List CType → List CType
-next_types [] = []
-next_types (t ∷ ts) = ts
 
 -- `P[E]` points where `P + E` does (C17 6.5.2.1)
 abbrev pub subscripted : Action → Action → Action

@@ -3,15 +3,16 @@
 use Rattle.std.specs.Prelude.{ℕ, ◌==◌, nat_le, Bool, true, false, cond, not, ◌&&◌, ◌||◌, List, [], ◌∷◌, ◌++◌, length, filter, Option, Some, None}
 use Rattle.std.specs.List.{list_any, list_all}
 use Rattle.vk_kinds.specs.declared.heads.CType.{CType}
-use Rattle.vk_kinds.specs.declared.heads.CType.TheVariants.{Void, Int, Ptr}
+use Rattle.vk_kinds.specs.declared.heads.CType.TheVariants.{Int}
 use Rattle.vk_ast.specs.declared.names.NameId.{NameId}
 use Rattle.vk_ast.specs.Tree.{Tree, Trees, int, name, index, deref, addr, unary, binary, choice, cast, call, no_trees, more_trees}
 use Rattle.vk_ast.specs.Statements.{StmtTree, StmtTrees, block, local, assign, value, if_only, if_else, while_loop, do_loop, for_loop, return_value, simd, no_stmts, more_stmts}
 use Rattle.vk_rules_book.specs.Scopes.{Scope, Meaning, an_object, same_name, meaning_of, with_binding}
 use Rattle.vk_rules_book.specs.Typings.{is_pointer, wanted_types, typing_of}
+use Rattle.vk_meaning.specs.Types.{is_pointer_type, is_written_type, next_type, next_types}
 use Rattle.vk_meaning.specs.Data.{array_of}
 use Rattle.vk_meaning.specs.Points.{Variable, variable_named, Point, branch_point, head_point, block_point, behind}
-use Rattle.vk_meaning.specs.Expressions.{Context, Variables, next_type, next_types}
+use Rattle.vk_meaning.specs.Expressions.{Context, Variables}
 
 pub data Base : Type 0 where
   object : NameId → Base
@@ -33,16 +34,6 @@ without_repeats seen [] = []
 without_repeats seen (b ∷ bs) = cond (is_among b seen) (without_repeats seen bs) (b ∷ without_repeats (b ∷ seen) bs)
 
 -- ---- the base of a pointer or a place
-
-abbrev pub is_pointer_type : CType → Bool
-is_pointer_type Void = false
-is_pointer_type (Int t) = false
-is_pointer_type (Ptr to written) = true
-
-abbrev pub is_written_type : CType → Bool
-is_written_type Void = false
-is_written_type (Int t) = false
-is_written_type (Ptr to written) = written
 
 abbrev pub object_base : Option Meaning → NameId → List Base
 object_base (Some (an_object t is_array fixed)) id = object id ∷ []

@@ -31,4 +31,4 @@ pub record AreLanesOf (Own : (lane array index : ℕ) → Type 0) (scalar : (lan
 abbrev pub IsLaneWise : (scalar : List Datum → Memory → Value) → List CType → List Array → (lanes : ℕ) → (mask : ℕ → Bool) → Words →
     (m : Memory) → (old new : ℕ → ℕ) → (stops : ℕ → Option Stop) → (m' : Memory) → Type 0
 IsLaneWise scalar ts arrays lanes mask words m old new stops m' =
-    AreLanesOf (NamesCell ts arrays words) (λ j. scalar (arguments_of ts words j) m) lanes mask m old new stops m'
+    AreLanesOf (λ j. NamesCell ts arrays (arguments_of ts words j)) (λ j. scalar (arguments_of ts words j) m) lanes mask m old new stops m'

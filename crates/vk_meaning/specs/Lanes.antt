@@ -11,7 +11,8 @@ use Rattle.vk_kinds.specs.declared.kinds.Kind.TheVariants.{Vector, Uniform, Line
 use Rattle.vk_kinds.specs.declared.kinds.Step.{Step}
 use Rattle.vk_kinds.specs.declared.kinds.Step.TheVariants.{One, By, Arg}
 use Rattle.vk_meaning.specs.World.{Array, array_at}
-use Rattle.vk_meaning.specs.Data.{Datum, number, pointer, nothing, array_of, named_element}
+use Rattle.vk_meaning.specs.Data.{Datum, number, pointer as a_pointer, nothing, array_of, named_element}
+use Rattle.vk_meaning.specs.Types.{is_pointer_type, is_written_type, type_at}
 
 -- ---- words
 
@@ -19,12 +20,12 @@ use Rattle.vk_meaning.specs.Data.{Datum, number, pointer, nothing, array_of, nam
 abbrev pub datum_of : CType → ℕ → Datum
 datum_of Void w = nothing
 datum_of (Int t) w = number (number_of t w)
-datum_of (Ptr to written) w = pointer (w / 2 ^ 32) (cast_signed w32 (w % 2 ^ 32))
+datum_of (Ptr to written) w = a_pointer (w / 2 ^ 32) (cast_signed w32 (w % 2 ^ 32))
 
 -- the word that stands for it
 abbrev pub word_of_datum : Datum → ℕ
 word_of_datum (number z) = word_of z
-word_of_datum (pointer array offset) = array * 2 ^ 32 + cast_unsigned w32 offset
+word_of_datum (a_pointer array offset) = array * 2 ^ 32 + cast_unsigned w32 offset
 word_of_datum nothing = 0
 
 -- the words of a call, by the number of the parameter and that of the lane
@@ -40,12 +41,9 @@ data_from p (t ∷ ts) words lane = datum_of t (words p lane) ∷ data_from (p +
 abbrev pub arguments_of : List CType → Words → (lane : ℕ) → List Datum
 arguments_of ts words lane = data_from 0 ts words lane
 
-abbrev pub type_at : List CType → (parameter : ℕ) → CType
-type_at ts p = get_or ts p Void
-
 -- an argument of a lane
 abbrev pub argument : List CType → Words → (parameter lane : ℕ) → Datum
-argument ts words p lane = datum_of (type_at ts p) (words p lane)
+argument ts words p lane = get_or (arguments_of ts words lane) p nothing
 
 -- ---- typed arguments
 
@@ -126,31 +124,25 @@ AreFitting ts kinds lanes words mask =
 
 -- ---- lanes that are apart
 
--- a pointer type, of elements that may be written or not
-abbrev pub IsPointer : CType → (written : Bool) → Type 0
-IsPointer Void w = ⊥
-IsPointer (Int t) w = ⊥
-IsPointer (Ptr to written) w = written ≡ w
-
--- a written pointer of the lane points to this cell
-pub record NamesCell (ts : List CType) (arrays : List Array) (words : Words) (lane array index : ℕ) : Type 0 where
+-- Of these arguments, for parameters of these types, a pointer to elements that may be written points to this cell.
+pub record NamesCell (ts : List CType) (arrays : List Array) (ds : List Datum) (array index : ℕ) : Type 0 where
   pub parameter : ℕ
   pub below : parameter < length ts
-  pub written : IsPointer (type_at ts parameter) true
-  pub same_array : array_of (argument ts words parameter lane) ≡ array
-  pub element : named_element arrays (argument ts words parameter lane) ≡ Some index
+  pub written : is_written_type (type_at ts parameter) ≡ true
+  pub same_array : array_of (get_or ds parameter nothing) ≡ array
+  pub element : named_element arrays (get_or ds parameter nothing) ≡ Some index
 
--- a read pointer of the lane points into this array
-pub record ReadsArray (ts : List CType) (words : Words) (lane array : ℕ) : Type 0 where
+-- Of these arguments, a pointer to elements that may only be read points into this array, or past its ends.
+pub record ReadsArray (ts : List CType) (ds : List Datum) (array : ℕ) : Type 0 where
   pub parameter : ℕ
   pub below : parameter < length ts
-  pub read : IsPointer (type_at ts parameter) false
-  pub same_array : array_of (argument ts words parameter lane) ≡ array
+  pub pointer : is_pointer_type (type_at ts parameter) ≡ true
+  pub read : is_written_type (type_at ts parameter) ≡ false
+  pub same_array : array_of (get_or ds parameter nothing) ≡ array
 
--- Of any two different active lanes, a cell that a written pointer of the one points to is pointed to by no written pointer of the
--- other, and is in no array that a read pointer of the other points into.
+-- Of any two different active lanes, no cell is named by both, and none that the one names lies in an array that the other reads.
 pub record AreApart (ts : List CType) (arrays : List Array) (lanes : ℕ) (words : Words) (mask : ℕ → Bool) : Type 0 where
   pub cells : (i j : ℕ) → i < lanes → j < lanes → mask i ≡ true → mask j ≡ true → i ≢ j → (a c : ℕ) →
-      NamesCell ts arrays words i a c → NamesCell ts arrays words j a c → ⊥
+      NamesCell ts arrays (arguments_of ts words i) a c → NamesCell ts arrays (arguments_of ts words j) a c → ⊥
   pub arrays_read : (i j : ℕ) → i < lanes → j < lanes → mask i ≡ true → mask j ≡ true → i ≢ j → (a c : ℕ) →
-      NamesCell ts arrays words i a c → ReadsArray ts words j a → ⊥
+      NamesCell ts arrays (arguments_of ts words i) a c → ReadsArray ts (arguments_of ts words j) a → ⊥

@@ -1,4 +1,5 @@
 pub mod World
+pub mod Types
 pub mod Data
 pub mod Points
 pub mod Expressions

@@ -20,8 +20,8 @@ use Rattle.vk_rules_book.specs.Typings.{moves_left, moves_right, wanted_types, t
 use Rattle.vk_meaning.specs.World.{Array}
 use Rattle.vk_meaning.specs.Data.{Datum, number, pointer, nothing, pointer_in, as_type, Action, given, and_then, moved, loaded}
 use Rattle.vk_meaning.specs.Points.{Variable, variable_among, variable_named}
-use Rattle.vk_meaning.specs.Expressions.{Context, Variables, integer_type, pointed_type, object_value, name_value, both, truth_of, integers_value, moved_by, operator_value, converted, next_type, next_types, subscripted, value_of, address_of, with_arguments}
-use Rattle.vk_meaning.specs.Guards.{is_written_type}
+use Rattle.vk_meaning.specs.Expressions.{Context, Variables, integer_type, pointed_type, object_value, name_value, both, truth_of, integers_value, moved_by, operator_value, converted, subscripted, value_of, address_of, with_arguments}
+use Rattle.vk_meaning.specs.Types.{is_written_type, next_type, next_types}
 use Rattle.vk_meaning_laws.specs.Tame.{is_written_variable, is_written_name, is_const_object, is_readable, is_function, IsTameName, IsZero, IsTameArgument, IsTame, IsTamePlace, AreTame}
 use Rattle.vk_meaning_laws.proofs.Sights.{Sight, Keeps, IsReadable, IsOwned, IsKnown, IsFine, keeps_then, keeps_number, keeps_weaken, keeps_given, keeps_cond, keeps_answered, keeps_moved, keeps_read, keeps_own, keeps_still}
 

@@ -3,3 +3,4 @@ mod Expressions
 mod Variables
 mod Effects
 mod Statements
+mod Calls

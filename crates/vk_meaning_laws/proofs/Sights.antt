@@ -10,7 +10,7 @@ use Rattle.vk_kinds.specs.declared.heads.CType.{CType}
 use Rattle.vk_meaning.specs.World.{Array, array_at, with_cell, Event, World, with_event, in_memory}
 use Rattle.vk_meaning.specs.Data.{Datum, number, pointer, nothing, number_in, Value, got, halts, with_value, Action, given, and_then, then_number, fits_offset, pointer_at, moved, named_element, array_of, at_element, loaded, stored}
 use Rattle.vk_meaning.specs.Expressions.{answered}
-use Rattle.vk_meaning.specs.Guards.{is_written_type}
+use Rattle.vk_meaning.specs.Types.{is_written_type}
 
 pub record Sight : Type 1 where
   -- the elements that may be read, and those that may be written

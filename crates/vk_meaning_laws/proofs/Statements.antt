@@ -17,7 +17,7 @@ use Rattle.vk_meaning.specs.World.{World}
 use Rattle.vk_meaning.specs.Data.{Datum, number, nothing, got, Action, as_type, loaded}
 use Rattle.vk_meaning.specs.Points.{Variable, variable_named, Point, past, branch_point, head_point, block_point, behind, loops_in}
 use Rattle.vk_meaning.specs.Expressions.{Context, Variables, with_datum, integer_type, value_of, address_of}
-use Rattle.vk_meaning.specs.Guards.{is_written_type}
+use Rattle.vk_meaning.specs.Types.{is_written_type}
 use Rattle.vk_meaning.specs.Statements.{fell, Effect, Evaluation, then_do, combined, assigned, assigned_by, assignment_to, variable_of, condition_of, initialised, declared, return_of, told, told_by, run, run_simd, run_all}
 use Rattle.vk_meaning_laws.specs.Tame.{IsTame, IsTameOptional, IsWrittenElement, IsTameTarget, IsTameStmt, AreTameStmts}
 use Rattle.vk_meaning_laws.proofs.Sights.{Sight, AlikeValues, both_got, both_halt, Keeps, IsReadable, IsOwned, keeps_then, keeps_number, keeps_weaken, keeps_given, keeps_own, keeps_read, keeps_stored, keeps_answered}

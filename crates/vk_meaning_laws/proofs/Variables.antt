@@ -13,20 +13,20 @@ use Rattle.vk_rules_book.specs.Visits.{after, after_all}
 use Rattle.vk_meaning.specs.World.{Array}
 use Rattle.vk_meaning.specs.Data.{Datum, number, nothing, as_type}
 use Rattle.vk_meaning.specs.Points.{Variable, variable_among, variable_named}
-use Rattle.vk_meaning.specs.Expressions.{Variables, with_datum, next_type, next_types}
-use Rattle.vk_meaning.specs.Guards.{is_written_type}
+use Rattle.vk_meaning.specs.Expressions.{Variables, with_datum}
+use Rattle.vk_meaning.specs.Types.{is_written_type, next_type, next_types}
 use Rattle.vk_meaning.specs.Meaning.{first_variables}
 use Rattle.vk_meaning_laws.specs.Tame.{are_named}
 use Rattle.vk_meaning_laws.proofs.Sights.{Sight, IsReadable, IsOwned, IsKnown, IsFine}
 use Rattle.vk_meaning_laws.proofs.Expressions.{HaveFine, AreFine}
 
-abbrev type_number : List CType → ℕ → CType
+abbrev pub type_number : List CType → ℕ → CType
 type_number ts k = get_or ts k Void
 
-abbrev binding_type : Binding → CType
+abbrev pub binding_type : Binding → CType
 binding_type b = b.ctype
 
-abbrev types : List Binding → List CType
+abbrev pub types : List Binding → List CType
 types bs = map binding_type bs
 
 abbrev here : ℕ → Binding → Variable
@@ -174,21 +174,24 @@ length-types : (bs : List Binding) → length (types bs) ≡ length bs
 length-types [] = refl
 length-types (b ∷ bs) = ap suc (length-types bs)
 
+-- a scope, by its own variables
+pub in_itself : (scope : Scope) → InScope (types scope.inner) scope.file scope
+in_itself scope = record { same = refl; long = long; flagged = flagged }
+  where
+    long : length (types scope.inner) ≤ length scope.inner
+    long = let e : length (types scope.inner) ≡ length scope.inner = length-types scope.inner in omega (arith, e)
+
+    flagged : (id : NameId) (x : Variable) → variable_named scope id ≡ Some x → is_written_type x.ctype ≡ is_written_type (type_number (types scope.inner) x.number)
+    flagged id x e =
+        let a : Among 0 scope.inner x = among 0 scope.inner id x e in
+        let at : a.at ≡ x.number = omega (arith, a.number) in
+        ap is_written_type a.ctype ∙ ap (λ (n : ℕ). is_written_type (type_number (types scope.inner) n)) at
+
 -- the scope of a function's body, whose parameters have names
 pub in_params : (ps : List ParamDecl) (scope : Scope) → scope.inner ≡ [] → are_named ps ≡ true → InScope (types_of ps) scope.file (with_params scope ps)
-in_params ps scope none named = record { same = params_file ps scope; long = long; flagged = flagged }
-  where
-    are : types (with_params scope ps).inner ≡ types_of ps
-    are = params_types ps scope named ∙ ap (λ (bs : List Binding). types bs ++ types_of ps) none
-
-    long : length (types_of ps) ≤ length (with_params scope ps).inner
-    long = let e : length (types_of ps) ≡ length (with_params scope ps).inner = sym (ap length are) ∙ length-types (with_params scope ps).inner in omega (arith, e)
-
-    flagged : (id : NameId) (x : Variable) → variable_named (with_params scope ps) id ≡ Some x → is_written_type x.ctype ≡ is_written_type (type_number (types_of ps) x.number)
-    flagged id x e =
-        let a : Among 0 (with_params scope ps).inner x = among 0 (with_params scope ps).inner id x e in
-        let at : a.at ≡ x.number = omega (arith, a.number) in
-        ap is_written_type (a.ctype ∙ ap (λ (ts : List CType). get_or ts a.at Void) are) ∙ ap (λ (n : ℕ). is_written_type (type_number (types_of ps) n)) at
+in_params ps scope none named =
+    subst (λ (ts : List CType). InScope ts scope.file (with_params scope ps)) (params_types ps scope named ∙ ap (λ (bs : List Binding). types bs ++ types_of ps) none)
+    (subst (λ (f : NameId → Option Meaning). InScope (types (with_params scope ps).inner) f (with_params scope ps)) (params_file ps scope) (in_itself (with_params scope ps)))
 
 -- ---- what variables have
 

@@ -13,8 +13,7 @@ use Rattle.vk_rules_book.specs.Typings.{wanted_types}
 use Rattle.vk_rules_book.specs.Rules.{Subject}
 use Rattle.vk_meaning.specs.World.{array_at}
 use Rattle.vk_meaning.specs.Points.{Variable, variable_named, Point, past, branch_point, head_point, block_point, behind, loops_in}
-use Rattle.vk_meaning.specs.Expressions.{next_type, next_types}
-use Rattle.vk_meaning.specs.Guards.{is_written_type}
+use Rattle.vk_meaning.specs.Types.{is_written_type, next_type, next_types}
 use Rattle.vk_meaning.specs.Statements.{variable_of}
 use Rattle.vk_meaning.specs.Programs.{Definition, definition_of, first_point, arrays_of, array_number}
 
@@ -149,9 +148,6 @@ pub record IsTameProgram (units : List Subject) (lane : List ℕ → Bool) : Typ
   pub declared : (text : List ℕ) (d : Definition) → IsLaneFunction units lane text d →
       (id : NameId) (f : Definition) → IsLaneFunction units lane (text_of d.unit.texts id) f →
       wanted_types (file_meaning d.unit.texts d.items id) ≡ types_of f.function.params
-  -- the built-in function is none of them
-  pub not_built_in : (text : List ℕ) (d : Definition) → IsLaneFunction units lane text d →
-      (id : NameId) → lane (text_of d.unit.texts id) ≡ true → is_print d.unit.texts id ≡ false
 
 -- What these functions know as `const` objects are arrays that are `const`: so it is where the units link.
 abbrev pub ConstsAreFixed : (units : List Subject) → (lane : List ℕ → Bool) → Type 0
