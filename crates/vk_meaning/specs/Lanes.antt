@@ -12,7 +12,7 @@ use Rattle.vk_kinds.specs.declared.kinds.Step.{Step}
 use Rattle.vk_kinds.specs.declared.kinds.Step.TheVariants.{One, By, Arg}
 use Rattle.vk_meaning.specs.World.{Array, array_at}
 use Rattle.vk_meaning.specs.Data.{Datum, number, pointer as a_pointer, nothing, array_of, named_element}
-use Rattle.vk_meaning.specs.Types.{is_pointer_type, is_written_type, type_at}
+use Rattle.vk_meaning.specs.Types.{is_written_type, type_at}
 
 -- ---- words
 
@@ -135,10 +135,9 @@ pub record NamesCell (ts : List CType) (arrays : List Array) (ds : List Datum) (
 -- Of these arguments, a pointer to elements that may only be read points into this array, or past its ends.
 pub record ReadsArray (ts : List CType) (ds : List Datum) (array : ℕ) : Type 0 where
   pub parameter : ℕ
-  pub below : parameter < length ts
-  pub pointer : is_pointer_type (type_at ts parameter) ≡ true
   pub read : is_written_type (type_at ts parameter) ≡ false
-  pub same_array : array_of (get_or ds parameter nothing) ≡ array
+  pub offset : ℤ
+  pub points : get_or ds parameter nothing ≡ a_pointer array offset
 
 -- Of any two different active lanes, no cell is named by both, and none that the one names lies in an array that the other reads.
 pub record AreApart (ts : List CType) (arrays : List Array) (lanes : ℕ) (words : Words) (mask : ℕ → Bool) : Type 0 where

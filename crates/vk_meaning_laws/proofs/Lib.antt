@@ -4,3 +4,4 @@ mod Variables
 mod Effects
 mod Statements
 mod Calls
+mod Locality
