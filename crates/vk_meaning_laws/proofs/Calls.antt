@@ -60,9 +60,11 @@ module _ {v : Sight} (units : List Subject) (turns : ℕ) where
   free_called : Free v → (calls : Calls) → ((text : List ℕ) (ds : List Datum) → Keeps v (IsReadable v) (calls text ds)) → (o : Option Definition) (ds : List Datum) →
       Keeps v (IsReadable v) (called_where_defined units turns calls o ds)
   free_called all calls k None ds = keeps_given nothing tt
-  free_called all calls k (Some d) ds = record { from = λ w w' h.
-      ended_alike v (AllFine v (arrays_of units) (types (first_point d).scope.inner)) d.function.result _ _
-      ((goes_run (types (first_point d).scope.inner) sees d.body (first_point d) (in_itself (first_point d).scope) (free all)).from (first_variables ds) w w' (λ k. free_known v all (arrays_of units) _ _) h) }
+  free_called all calls k (Some d) ds = record {
+    from = λ w w' h.
+        ended_alike v (AllFine v (arrays_of units) (types (first_point d).scope.inner)) d.function.result _ _
+        ((goes_run (types (first_point d).scope.inner) sees d.body (first_point d) (in_itself (first_point d).scope) (free all)).from (first_variables ds) w w' (λ k. free_known v all (arrays_of units) _ _) h);
+  }
     where
       sees : Sees v (context_of units turns calls d) (first_point d).scope.file (λ id. true)
       sees = record { consts = free all; calls = λ id us a. keeps_call_by calls (is_print d.unit.texts id) (text_of d.unit.texts id) us (k (text_of d.unit.texts id) us) }
@@ -88,12 +90,14 @@ module _ {v : Sight} (units : List Subject) (turns : ℕ) where
     tame_called : (calls : Calls) → KeepsCalls v units lane calls → (text : List ℕ) → lane text ≡ true → (ds : List Datum) → (o : Option Definition) → definition_of units text ≡ o →
         ((d : Definition) → o ≡ Some d → AreFine v (arrays_of units) (types_of d.function.params) ds) → Keeps v (IsReadable v) (called_where_defined units turns calls o ds)
     tame_called calls k text m ds None e fine = keeps_given nothing tt
-    tame_called calls k text m ds (Some d) e fine = record { from = λ w w' h.
-        ended_alike v (AllFine v (arrays_of units) (types_of d.function.params)) d.function.result _ _
-        ((goes_run (types_of d.function.params) (tame_sees calls k text d (record { lane_function = m; definition = e })) d.body (first_point d)
-        (in_params d.function.params (file_scope d.unit.texts d.items) refl (program.named text d (record { lane_function = m; definition = e })))
-        (tame (program.body text d (record { lane_function = m; definition = e })))).from
-        (first_variables ds) w w' (fine_first v (arrays_of units) (types_of d.function.params) ds (fine d refl)) h) }
+    tame_called calls k text m ds (Some d) e fine = record {
+      from = λ w w' h.
+          ended_alike v (AllFine v (arrays_of units) (types_of d.function.params)) d.function.result _ _
+          ((goes_run (types_of d.function.params) (tame_sees calls k text d (record { lane_function = m; definition = e })) d.body (first_point d)
+          (in_params d.function.params (file_scope d.unit.texts d.items) refl (program.named text d (record { lane_function = m; definition = e })))
+          (tame (program.body text d (record { lane_function = m; definition = e })))).from
+          (first_variables ds) w w' (fine_first v (arrays_of units) (types_of d.function.params) ds (fine d refl)) h);
+    }
 
     pub tame_call : (depth : ℕ) (text : List ℕ) → lane text ≡ true → (ds : List Datum) → AreFineFor v units text ds → Keeps v (IsReadable v) (call_within depth units turns text ds)
     tame_call zero text m ds fine = keeps_given nothing tt

@@ -5,3 +5,5 @@ mod Effects
 mod Statements
 mod Calls
 mod Locality
+mod Frame
+mod Depth

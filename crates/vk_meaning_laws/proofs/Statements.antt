@@ -104,9 +104,11 @@ module _ {v : Sight} {c : Context} {file : NameId → Option Meaning} {lane : Na
 
   goes_declared : (scope : Scope) → InScope ts file scope → (t : Ty) (fixed : Bool) (id : NameId) (init : Option Tree) → Allowed v (IsTameOptional lane (with_binding scope id (Int t) fixed) init) →
       Goes v F (declared c scope t fixed id init)
-  goes_declared scope i t fixed id init h = record { from = λ vs w w' f r.
-      (goes_initialised (with_binding scope id (Int t) fixed) (in_binding ts file scope id t fixed i) (record { number = length scope.inner; ctype = Int t }) init h (λ us g d q. fine_declared v c.arrays ts file scope us (as_type (Int t) d) i tt g)).from
-      (with_datum vs (length scope.inner) (number (pos 0))) w w' (fine_declared v c.arrays ts file scope vs (number (pos 0)) i tt f) r }
+  goes_declared scope i t fixed id init h = record {
+    from = λ vs w w' f r.
+        (goes_initialised (with_binding scope id (Int t) fixed) (in_binding ts file scope id t fixed i) (record { number = length scope.inner; ctype = Int t }) init h (λ us g d q. fine_declared v c.arrays ts file scope us (as_type (Int t) d) i tt g)).from
+        (with_datum vs (length scope.inner) (number (pos 0))) w w' (fine_declared v c.arrays ts file scope vs (number (pos 0)) i tt f) r;
+  }
 
   goes_return : (scope : Scope) → InScope ts file scope → (e : Option Tree) → Allowed v (IsTameOptional lane scope e) → Goes v F (return_of c scope e)
   goes_return scope i None h = record { from = λ vs w w' f r. both_returned nothing w w' tt r }

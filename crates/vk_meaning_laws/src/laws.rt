@@ -1,0 +1,57 @@
+// The laws of calls.
+
+ghost use Rattle.std.specs.Prelude.{◌≡◌, ◌<◌, ◌≤◌, ℕ, Bool, List, true};
+ghost use Rattle.vk_rules_book.specs.Rules.{Subject};
+ghost use Rattle.vk_rules_book.specs.Scopes.{types_of};
+ghost use Rattle.vk_meaning.specs.Data.{Datum};
+ghost use Rattle.vk_meaning.specs.Lanes.{AreApart, AreTyped, NamesCell, Words, arguments_of};
+ghost use Rattle.vk_meaning.specs.Meaning.{call_of, call_within, called_where_defined, means, memory_of};
+ghost use Rattle.vk_meaning.specs.Programs.{Definition, arrays_of, definition_of};
+ghost use Rattle.vk_meaning.specs.World.{Memory, World};
+ghost use Rattle.vk_meaning_laws.specs.Depth.{IsShallow};
+ghost use Rattle.vk_meaning_laws.specs.Reach.{AgreeOn, CoversReach, EndAlikeOn, IsIn, IsUndisturbed, behind_events};
+ghost use Rattle.vk_meaning_laws.specs.Tame.{ConstsAreFixed, IsLaneFunction, IsTameProgram};
+
+/// A call of a tame function looks at no cell but those that its pointers let it look at and those of `const` objects: from memories
+/// that have the same words there it gives the same value or stop and the same events, and leaves the same words there.
+pub fn reads_within_reach()
+    ensures { (units : List Subject) (lane : List ℕ → Bool) (turns : ℕ) → IsTameProgram units lane → ConstsAreFixed units lane
+        → (text : List ℕ) (d : Definition) → IsLaneFunction units lane text d → (ds : List Datum) (cells : ℕ → ℕ → Bool)
+        → CoversReach (arrays_of units) (types_of d.function.params) ds (IsIn cells)
+        → (m m' : Memory) → AgreeOn (IsIn cells) m m' → EndAlikeOn (IsIn cells) (means units turns text ds m) (means units turns text ds m') }
+{}
+
+/// A call of a tame function leaves each cell as it was that none of its written pointers names.
+pub fn writes_within_reach()
+    ensures { (units : List Subject) (lane : List ℕ → Bool) (turns : ℕ) → IsTameProgram units lane
+        → (text : List ℕ) (d : Definition) → IsLaneFunction units lane text d → (ds : List Datum) (m : Memory) (a i : ℕ)
+        → (NamesCell (types_of d.function.params) (arrays_of units) ds a i → ⊥) → memory_of (means units turns text ds m) a i ≡ m a i }
+{}
+
+/// Lanes that are apart do not see one another: a lane's call ends alike from memories that differ only in cells which other active
+/// lanes name, so whatever these have stored already.
+pub fn lanes_do_not_meet()
+    ensures { (units : List Subject) (lane : List ℕ → Bool) (turns : ℕ) → IsTameProgram units lane → ConstsAreFixed units lane
+        → (text : List ℕ) (d : Definition) → IsLaneFunction units lane text d → (lanes : ℕ) (words : Words) (mask : ℕ → Bool)
+        → AreTyped (types_of d.function.params) (arrays_of units) lanes words mask
+        → AreApart (types_of d.function.params) (arrays_of units) lanes words mask → (j : ℕ) → j < lanes → mask j ≡ true
+        → (m m' : Memory) → AgreeOn (IsUndisturbed (types_of d.function.params) (arrays_of units) lanes words mask j) m m'
+        → EndAlikeOn (IsUndisturbed (types_of d.function.params) (arrays_of units) lanes words mask j)
+        (means units turns text (arguments_of (types_of d.function.params) words j) m)
+        (means units turns text (arguments_of (types_of d.function.params) words j) m') }
+{}
+
+/// A call in the middle of a run does what it does from its memory alone, and its events stand behind those before it.
+pub fn stands_in_any_run()
+    ensures { (units : List Subject) (turns : ℕ) (text : List ℕ) (ds : List Datum) (w : World)
+        → call_of units turns text ds w ≡ behind_events w.events (means units turns text ds w.memory) }
+{}
+
+/// Where no chain of calls from a function has more than n functions, calls that are cut off at a greater depth do the same. So a call
+/// is one of the function's definition, whose own calls are such calls again.
+pub fn depth_is_of_no_matter()
+    ensures deeper { (units : List Subject) (turns n m : ℕ) (text : List ℕ) → n ≤ m → IsShallow n units text
+        → call_within n units turns text ≡ call_within m units turns text }
+    ensures unfolds { (units : List Subject) (turns : ℕ) (text : List ℕ) → IsShallow 32 units text
+        → call_of units turns text ≡ called_where_defined units turns (call_of units turns) (definition_of units text) }
+{}
