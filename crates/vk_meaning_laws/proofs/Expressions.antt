@@ -172,7 +172,7 @@ module _ {v : Sight} where
       keeps_cond is_array (keeps_given (pointer a (pos 0)) (h e)) (keeps_read arrays t (pointer a (pos 0)) (h e))
   keeps_object arrays a (Some (a_function r ps is_simd)) h e = keeps_given nothing tt
 
-zero_in_range : (t : Ty) → IsInRange t (pos 0)
+pub zero_in_range : (t : Ty) → IsInRange t (pos 0)
 zero_in_range I8 = search rules
 zero_in_range I16 = search rules
 zero_in_range I32 = search rules

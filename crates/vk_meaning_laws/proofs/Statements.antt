@@ -9,21 +9,23 @@ use Rattle.vk_ast.specs.declared.expressions.BinOp.{BinOp}
 use Rattle.vk_ast.specs.declared.expressions.BinOp.TheVariants.{Lt}
 use Rattle.vk_ast.specs.Tree.{Tree, name, index, deref, binary}
 use Rattle.vk_ast.specs.Statements.{StmtTree, StmtTrees, empty, block, local, assign, value, if_only, if_else, while_loop, do_loop, for_loop, break_loop, continue_loop, return_value, simd, lost, no_stmts, more_stmts}
+use Rattle.vk_numbers.proofs.Numbers.{wrap_in_range}
 use Rattle.vk_numbers.specs.Operators.{binary_number}
 use Rattle.vk_rules_book.specs.Scopes.{Scope, Meaning, with_binding}
 use Rattle.vk_rules_book.specs.Typings.{typing_of}
 use Rattle.vk_rules_book.specs.Visits.{block_scope}
 use Rattle.vk_meaning.specs.World.{World}
-use Rattle.vk_meaning.specs.Data.{Datum, number, nothing, got, Action, as_type, loaded}
+use Rattle.vk_meaning.specs.Data.{Datum, number, nothing, number_in, got, Action, as_type, loaded}
 use Rattle.vk_meaning.specs.Points.{Variable, variable_named, Point, past, branch_point, head_point, block_point, behind, loops_in}
 use Rattle.vk_meaning.specs.Expressions.{Context, Variables, with_datum, integer_type, value_of, address_of}
 use Rattle.vk_meaning.specs.Types.{is_written_type}
 use Rattle.vk_meaning.specs.Statements.{fell, Effect, Evaluation, then_do, combined, assigned, assigned_by, assignment_to, variable_of, condition_of, initialised, declared, return_of, told, told_by, run, run_simd, run_all}
+use Rattle.vk_meaning_laws.specs.Ranges.{IsNumberOf}
 use Rattle.vk_meaning_laws.specs.Tame.{IsTame, IsTameOptional, IsWrittenElement, IsTameTarget, IsTameStmt, AreTameStmts}
 use Rattle.vk_meaning_laws.proofs.Sights.{Sight, AlikeValues, both_got, both_halt, Keeps, IsReadable, IsOwned, keeps_then, keeps_number, keeps_weaken, keeps_given, keeps_own, keeps_read, keeps_stored, keeps_answered}
-use Rattle.vk_meaning_laws.proofs.Expressions.{Allowed, free, tame, allow, Free, free_readable, free_known, readable_as, HaveFine, Sees, Stands, keeps_both, keeps_value, keeps_address, keeps_written, keeps_first}
+use Rattle.vk_meaning_laws.proofs.Expressions.{Allowed, free, tame, allow, Free, free_readable, free_known, readable_as, HaveFine, Sees, Stands, zero_in_range, keeps_both, keeps_value, keeps_address, keeps_written, keeps_first}
 use Rattle.vk_meaning_laws.proofs.Variables.{InScope, in_binding, in_inside, in_after, AllFine, fine_in, fine_assigned, fine_declared}
-use Rattle.vk_meaning_laws.proofs.Effects.{AlikeOutcomes, both_fell, both_returned, Goes, Evaluates, on_alike, goes_fell, goes_broke, goes_continued, goes_then, goes_branch, goes_turns, goes_repeat, goes_looped, goes_evaluate, goes_assign}
+use Rattle.vk_meaning_laws.proofs.Effects.{IsReturned, AlikeOutcomes, both_fell, both_returned, Goes, Evaluates, on_alike, goes_fell, goes_broke, goes_continued, goes_then, goes_branch, goes_turns, goes_repeat, goes_looped, goes_evaluate, goes_assign}
 
 -- ---- assignments to elements
 
@@ -43,6 +45,22 @@ module _ {v : Sight} where
       keeps_then h (λ p r. keeps_number (keeps_combined op s t (keeps_own c.arrays s p r) k) (λ z. keeps_stored c.arrays p (wrap_number s z) r))
 
 -- ---- statements
+
+nothing_ranged : (t : CType) → IsNumberOf t nothing
+nothing_ranged Void = tt
+nothing_ranged (Int t) = zero_in_range t
+nothing_ranged (Ptr to written) = tt
+
+pub nothing_returned : (v : Sight) (t : CType) → IsReturned v t nothing
+nothing_returned v t = record { readable = tt; ranged = nothing_ranged t }
+
+ranged_as : (t : CType) (d : Datum) → IsNumberOf t (as_type t d)
+ranged_as Void d = tt
+ranged_as (Int t) d = wrap_in_range t (number_in d)
+ranged_as (Ptr to written) d = tt
+
+returned_as : (v : Sight) (t : CType) (d : Datum) → IsReadable v d → IsReturned v t (as_type t d)
+returned_as v t d h = record { readable = readable_as v t d h; ranged = ranged_as t d }
 
 -- a function's run: its context, its parameters' types, and what names mean at its file scope
 module _ {v : Sight} {c : Context} {file : NameId → Option Meaning} {lane : NameId → Bool} (ts : List CType) (sees : Sees v c file lane) where
@@ -86,7 +104,7 @@ module _ {v : Sight} {c : Context} {file : NameId → Option Meaning} {lane : Na
   keeps_old scope vs i f e x same h = record { from = λ w w' r. both_got (vs x.number) w w' tt r }
 
   goes_assignment : (scope : Scope) → InScope ts file scope → (o : Option Variable) (op : Option BinOp) (place e : Tree) → variable_of scope place ≡ o → Allowed v (IsTameTarget lane scope place o × IsTame lane scope e) →
-      Goes v F (assignment_to c scope o op place e)
+      Goes v F c.result (assignment_to c scope o op place e)
   goes_assignment scope i (Some x) None place e same h =
       goes_assign x (λ vs. value_of c scope vs e) (assigns scope i place x same (allow (λ t. t.0) h)) (goes_value scope i e (allow (λ t. t.1) h))
   goes_assignment scope i (Some x) (Some op) place e same h =
@@ -98,26 +116,26 @@ module _ {v : Sight} {c : Context} {file : NameId → Option Meaning} {lane : Na
       goes_evaluate _ (λ vs f. keeps_assigned_by c op (integer_type (typing_of scope place)) (integer_type (typing_of scope e)) (keeps_place scope vs i f place (allow (λ t. t.0) h)) (goes_value scope i e (allow (λ t. t.1) h) vs f))
 
   goes_initialised : (scope : Scope) → InScope ts file scope → (x : Variable) (init : Option Tree) → Allowed v (IsTameOptional lane scope init) →
-      ((vs : Variables) → F vs → (d : Datum) → IsReadable v d → F (with_datum vs x.number (as_type x.ctype d))) → Goes v F (initialised c scope x init)
+      ((vs : Variables) → F vs → (d : Datum) → IsReadable v d → F (with_datum vs x.number (as_type x.ctype d))) → Goes v F c.result (initialised c scope x init)
   goes_initialised scope i x None h keep = goes_fell
   goes_initialised scope i x (Some e) h keep = goes_assign x (λ vs. value_of c scope vs e) keep (goes_value scope i e h)
 
   goes_declared : (scope : Scope) → InScope ts file scope → (t : Ty) (fixed : Bool) (id : NameId) (init : Option Tree) → Allowed v (IsTameOptional lane (with_binding scope id (Int t) fixed) init) →
-      Goes v F (declared c scope t fixed id init)
+      Goes v F c.result (declared c scope t fixed id init)
   goes_declared scope i t fixed id init h = record {
     from = λ vs w w' f r.
         (goes_initialised (with_binding scope id (Int t) fixed) (in_binding ts file scope id t fixed i) (record { number = length scope.inner; ctype = Int t }) init h (λ us g d q. fine_declared v c.arrays ts file scope us (as_type (Int t) d) i tt g)).from
         (with_datum vs (length scope.inner) (number (pos 0))) w w' (fine_declared v c.arrays ts file scope vs (number (pos 0)) i tt f) r;
   }
 
-  goes_return : (scope : Scope) → InScope ts file scope → (e : Option Tree) → Allowed v (IsTameOptional lane scope e) → Goes v F (return_of c scope e)
-  goes_return scope i None h = record { from = λ vs w w' f r. both_returned nothing w w' tt r }
-  goes_return scope i (Some e) h = record { from = λ vs w w' f r. on_alike _ _ _ ((goes_value scope i e h vs f).from w w' r) (λ d q u u' s. both_returned (as_type c.result d) u u' (readable_as v c.result d q) s) }
+  goes_return : (scope : Scope) → InScope ts file scope → (e : Option Tree) → Allowed v (IsTameOptional lane scope e) → Goes v F c.result (return_of c scope e)
+  goes_return scope i None h = record { from = λ vs w w' f r. both_returned nothing w w' (nothing_returned v c.result) r }
+  goes_return scope i (Some e) h = record { from = λ vs w w' f r. on_alike _ _ _ ((goes_value scope i e h vs f).from w w' r) (λ d q u u' s. both_returned (as_type c.result d) u u' (returned_as v c.result d q) s) }
 
-  goes_told : Free v → (p : Point) → InScope ts file p.scope → (t : Ty) (k : ℕ) (high : Tree) (body : StmtTree) → Goes v F (told c p t k high body)
+  goes_told : Free v → (p : Point) → InScope ts file p.scope → (t : Ty) (k : ℕ) (high : Tree) (body : StmtTree) → Goes v F c.result (told c p t k high body)
   goes_told all p i t k high body = record { from = λ vs w w' f r. on_alike _ _ _ ((goes_value p.scope i high (free all) vs f).from w w' r) (λ d q u u' s. both_fell vs _ _ f (v.tells u u' s _)) }
 
-  goes_told_by : Free v → (outside p : Point) → InScope ts file p.scope → (first : StmtTree) (test : Option Tree) (body : StmtTree) → Goes v F (told_by c outside p first test body)
+  goes_told_by : Free v → (outside p : Point) → InScope ts file p.scope → (first : StmtTree) (test : Option Tree) (body : StmtTree) → Goes v F c.result (told_by c outside p first test body)
   goes_told_by all outside p i (local l k t fixed id init) (Some (binary l1 k1 Lt left high)) body = goes_told all p i t (length outside.scope.inner) high body
   goes_told_by all outside p i first test body = goes_fell
 
@@ -132,7 +150,7 @@ module _ {v : Sight} {c : Context} {file : NameId → Option Meaning} {lane : Na
   in_block false scope i = in_inside ts file scope i
 
   mutual
-    pub goes_run : (s : StmtTree) (p : Point) → InScope ts file p.scope → Allowed v (IsTameStmt lane p s) → Goes v F (run c p s)
+    pub goes_run : (s : StmtTree) (p : Point) → InScope ts file p.scope → Allowed v (IsTameStmt lane p s) → Goes v F c.result (run c p s)
     goes_run (empty l k) p i h = goes_fell
     goes_run (block l k ss) p i h = goes_all ss (block_point p) (in_block p.shares p.scope i) h
     goes_run (local l k t fixed id init) p i h = goes_declared p.scope i t fixed id init h
@@ -160,7 +178,7 @@ module _ {v : Sight} {c : Context} {file : NameId → Option Meaning} {lane : Na
     goes_run (simd l k d body) p i (tame h) = absurd h
     goes_run (lost l k d) p i h = goes_fell
 
-    goes_simd : (s : StmtTree) (p : Point) → InScope ts file p.scope → Free v → Goes v F (run_simd c p s)
+    goes_simd : (s : StmtTree) (p : Point) → InScope ts file p.scope → Free v → Goes v F c.result (run_simd c p s)
     goes_simd (for_loop l k first test third body) p i all =
         goes_looped c.turns (then_do (run c (head_point p) first) (told_by c p (behind (head_point p) first) first test body)) (condition_of c (behind (head_point p) first).scope test)
         (run c (behind (head_point p) first) third) (run c (branch_point (behind (head_point p) first)) body)
@@ -170,6 +188,6 @@ module _ {v : Sight} {c : Context} {file : NameId → Option Meaning} {lane : Na
         (goes_run body (branch_point (behind (head_point p) first)) (in_branch (behind (head_point p) first) (in_behind (head_point p) first (in_branch p i))) (free all))
     goes_simd s p i all = goes_fell
 
-    goes_all : (ss : StmtTrees) (p : Point) → InScope ts file p.scope → Allowed v (AreTameStmts lane p ss) → Goes v F (run_all c p ss)
+    goes_all : (ss : StmtTrees) (p : Point) → InScope ts file p.scope → Allowed v (AreTameStmts lane p ss) → Goes v F c.result (run_all c p ss)
     goes_all no_stmts p i h = goes_fell
     goes_all (more_stmts s ss) p i h = goes_then (goes_run s p i (allow (λ t. t.0) h)) (goes_all ss (behind p s) (in_behind p s i) (allow (λ t. t.1) h))

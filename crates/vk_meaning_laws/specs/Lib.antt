@@ -1,3 +1,4 @@
 pub mod Tame
 pub mod Reach
 pub mod Depth
+pub mod Ranges
