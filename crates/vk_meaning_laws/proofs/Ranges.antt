@@ -1,6 +1,6 @@
 -- The number that an expression gives is one of its type. Where it gives a pointer or nothing, that counts as 0.
-use Rattle.std.proofs.Common.{◌≡◌, ℕ, ◌+◌, Bool, true, false, cond, ◌&&◌, not, List, [], ◌∷◌, length, Option, Some, None, ℤ, pos, neg_ℤ, ◌+ℤ◌, Result, Ok, Err, refl, subst, sym, ap, rules, ◌∙◌}
-use Rattle.std.specs.Option.{option_or}
+use Rattle.std.proofs.Common.{◌≡◌, ℕ, ◌+◌, Bool, true, false, cond, ◌&&◌, not, List, [], ◌∷◌, length, Option, Some, None, ℤ, pos, neg_ℤ, ◌+ℤ◌, unwrap_or, Result, Ok, Err, refl, subst, sym, ap, rules, ◌∙◌}
+use Rattle.std.specs.Option.{option_or, option_map}
 use Rattle.vk_types.specs.declared.types.Ty.{Ty}
 use Rattle.vk_types.specs.declared.types.Ty.TheVariants.{I32}
 use Rattle.vk_types.specs.declared.types.Stop.{Stop}
@@ -177,3 +177,163 @@ gives_integers op s t a b =
 
 gives_converted : (t : Ty) (a : Action) → Gives (IsOf t) (converted t a)
 gives_converted t a = gives_last a (λ d. gives_given (number (wrap_number t (number_in d))) (wrap_in_range t (number_in d)))
+
+-- ---- by the types of expressions
+
+gives_none : {a : Action} (typing : Typing) → Gives IsNone a → Gives (IsNumberOfTyping typing) a
+gives_none typing h = gives_weaken h (λ d e. none_ranged typing d e)
+
+gives_untyped : (typing : Typing) → number_type typing ≡ None → (a : Action) → Gives (IsNumberOfTyping typing) a
+gives_untyped typing e a = gives_weaken {P = Any} (record { from = λ w. each_any (a w) }) (λ d p. untyped typing e d)
+
+gives_of : {a : Action} (typing : Typing) (s : Ty) → number_type typing ≡ Some s → Gives (IsOf s) a → Gives (IsNumberOfTyping typing) a
+gives_of typing s e h = gives_weaken h (λ d p. of_typing typing s e d p)
+
+one_number : {a : Action} (f : Ty → Ty) (o : Option Ty) → Gives (IsOf (f (unwrap_or o I32))) a → Gives (IsNumberOfTyping (typed_number o (λ t. Number (f t)))) a
+one_number {a = a} f None h = gives_untyped Untyped refl a
+one_number f (Some s) h = gives_of (Number (f s)) (f s) refl h
+
+two_numbers : {a : Action} (f : Ty → Ty → Ty) (o p : Option Ty) → Gives (IsOf (f (unwrap_or o I32) (unwrap_or p I32))) a → Gives (IsNumberOfTyping (typed_number o (λ s. typed_number p (λ t. Number (f s t))))) a
+two_numbers {a = a} f None p h = gives_untyped Untyped refl a
+two_numbers {a = a} f (Some s) None h = gives_untyped Untyped refl a
+two_numbers f (Some s) (Some t) h = gives_of (Number (f s t)) (f s t) refl h
+
+three_numbers : {a : Action} (f : Ty → Ty → Ty) (c o p : Option Ty) → Gives (IsOf (f (unwrap_or o I32) (unwrap_or p I32))) a →
+    Gives (IsNumberOfTyping (typed_number c (λ b. typed_number o (λ s. typed_number p (λ t. Number (f s t)))))) a
+three_numbers {a = a} f None o p h = gives_untyped Untyped refl a
+three_numbers f (Some b) o p h = two_numbers f o p h
+
+gives_choice : {a : Action} (c s t : Typing) → Gives (IsOf (common_type (integer_type s) (integer_type t))) a → Gives (IsNumberOfTyping (choice_typing c s t)) a
+unfolding choice_typing
+gives_choice c s t h = three_numbers common_type (number_type c) (number_type s) (number_type t) h
+
+gives_operator : (op : BinOp) (s t : Typing) (a b : Action) → Gives (IsNumberOfTyping (binary_typing op s t)) (operator_value op s t a b)
+gives_operator op s t a b = go (moves_left op s) (moves_right op s t)
+  where
+    go : (l r : Bool) → Gives (IsNumberOfTyping (cond l (with_number t (λ u. s)) (cond r (with_number s (λ u. t)) (with_number s (λ u. with_number t (λ v. Number (binary_type op u v)))))))
+        (cond l (and_then a (λ p. then_number b (moved_by op p))) (cond r (and_then b (λ p. then_number a (moved_by op p))) (integers_value op (integer_type s) (integer_type t) a b)))
+    go true r = gives_none _ (gives_last a (λ p. gives_last b (λ n. gives_moved_by op p (number_in n))))
+    go false true = gives_none _ (gives_last b (λ p. gives_last a (λ n. gives_moved_by op p (number_in n))))
+    go false false = two_numbers (binary_type op) (number_type s) (number_type t) (gives_integers op (integer_type s) (integer_type t) a b)
+
+gives_pointed : (arrays : List Array) (a : Action) (t : Typing) → Gives (IsNumberOfTyping (pointed_typing t)) (and_then a (loaded arrays (pointed_type t)))
+gives_pointed arrays a (Pointer to written) = gives_of (Cell to written) to refl (gives_last a (λ d. gives_loaded arrays to d))
+gives_pointed arrays a t = gives_untyped Untyped refl _
+
+gives_element : (arrays : List Array) (a : Action) (base subscript : Typing) → Gives (IsNumberOfTyping (element_typing base subscript)) (and_then a (loaded arrays (pointed_type base)))
+gives_element arrays a (Pointer to written) subscript = go (number_type subscript)
+  where
+    go : (o : Option Ty) → Gives (IsNumberOfTyping (typed_number o (λ t. Cell to written))) (and_then a (loaded arrays to))
+    go None = gives_untyped Untyped refl _
+    go (Some s) = gives_of (Cell to written) to refl (gives_last a (λ d. gives_loaded arrays to d))
+gives_element arrays a t subscript = gives_untyped Untyped refl _
+
+address_untyped : (t : Typing) → number_type (with_address t) ≡ None
+address_untyped (Cell t written) = refl
+address_untyped t = refl
+
+-- ---- names
+
+abbrev ctype_of : Variable → CType
+ctype_of x = x.ctype
+
+abbrev type_bound : Binding → CType
+type_bound b = b.ctype
+
+-- the variable that a name means has the type of the declaration that it means
+types_agree : (k : ℕ) (bs : List Binding) (id : NameId) → option_map ctype_of (variable_among k bs id) ≡ option_map type_bound (last_binding bs id)
+unfolding last_binding
+types_agree k [] id = refl
+types_agree k (b ∷ bs) id = go (variable_among (k + 1) bs id) (last_binding bs id) (same_name b.name id) (types_agree (k + 1) bs id)
+  where
+    go : (x : Option Variable) (y : Option Binding) (same : Bool) → option_map ctype_of x ≡ option_map type_bound y →
+        option_map ctype_of (option_or x (cond same (Some (record { number = k; ctype = b.ctype })) None)) ≡ option_map type_bound (option_or y (cond same (Some b) None))
+    go None None true e = refl
+    go None None false e = refl
+    go (Some x) None same e = cc
+    go None (Some y) same e = cc
+    go (Some x) (Some y) same e = e
+
+gives_object : (arrays : List Array) (a : ℕ) (m : Option Meaning) → Gives (IsNumberOfTyping (name_typing m)) (object_value arrays a m)
+gives_object arrays a (Some (an_object t true fixed)) = gives_none (Pointer t (not fixed)) (gives_given (pointer a (pos 0)) refl)
+gives_object arrays a (Some (an_object t false fixed)) = gives_of (Cell t (not fixed)) t refl (gives_loaded arrays t (pointer a (pos 0)))
+gives_object arrays a None = gives_none Untyped (gives_given nothing refl)
+gives_object arrays a (Some (a_function r ps is_simd)) = gives_none Function (gives_given nothing refl)
+gives_object arrays a (Some (a_variable t fixed)) = gives_none (name_typing (Some (a_variable t fixed))) (gives_given nothing refl)
+
+variable_ranged : (t : CType) (fixed : Bool) (d : Datum) → IsNumberOf t d → IsNumberOfTyping (name_typing (Some (a_variable t fixed))) d
+variable_ranged Void fixed d h = untyped Untyped refl d
+variable_ranged (Int t) fixed d h = of_typing (AVariable t fixed) t refl d h
+variable_ranged (Ptr to written) fixed d h = untyped (Pointer to written) refl d
+
+-- a name that is a variable means one of its type
+variable_meaning : (scope : Scope) (id : NameId) (x : Variable) → variable_named scope id ≡ Some x → (fixed : Bool) × (meaning_of scope id ≡ Some (a_variable x.ctype fixed))
+unfolding meaning_of
+variable_meaning scope id x e = go (last_binding scope.inner id) (sym (types_agree 0 scope.inner id) ∙ ap (option_map ctype_of) e)
+  where
+    go : (y : Option Binding) → option_map type_bound y ≡ Some x.ctype → (fixed : Bool) × (inner_or y (scope.file id) ≡ Some (a_variable x.ctype fixed))
+    go None f = cc
+    go (Some y) f = (y.fixed, ap (λ (t : Option CType). Some (a_variable (unwrap_or t Void) y.fixed)) f)
+
+gives_name : (c : Context) (scope : Scope) (vs : Variables) (id : NameId) → AreRanged scope vs → (x : Option Variable) → variable_named scope id ≡ x →
+    Gives (IsNumberOfTyping (name_typing (meaning_of scope id))) (name_value c scope vs x id)
+gives_name c scope vs id h None e = gives_object c.arrays (c.array id) (meaning_of scope id)
+gives_name c scope vs id h (Some x) e =
+    let m : (fixed : Bool) × (meaning_of scope id ≡ Some (a_variable x.ctype fixed)) = variable_meaning scope id x e in
+    subst (λ (o : Option Meaning). Gives (IsNumberOfTyping (name_typing o)) (given (vs x.number))) (sym m.1) (gives_given (vs x.number) (variable_ranged x.ctype m.0 (vs x.number) (h id x e)))
+
+-- ---- calls
+
+called_ranged : (b : Bool) (m : Option Meaning) (d : Datum) → IsNumberOf (result_of m) d → IsNumberOfTyping (cond b (called_typing m) Untyped) d
+called_ranged false m d h = untyped Untyped refl d
+called_ranged true None d h = untyped Untyped refl d
+called_ranged true (Some (a_variable t fixed)) d h = untyped Untyped refl d
+called_ranged true (Some (an_object t is_array fixed)) d h = untyped Untyped refl d
+called_ranged true (Some (a_function Void ps is_simd)) d h = untyped Nothing refl d
+called_ranged true (Some (a_function (Int t) ps is_simd)) d h = of_typing (Number t) t refl d h
+called_ranged true (Some (a_function (Ptr to written) ps is_simd)) d h = untyped Untyped refl d
+
+gives_arguments : {Q : Datum → Type 0} (c : Context) (scope : Scope) (vs : Variables) (ts : List CType) (es : Trees) (before : List Datum) (next : List Datum → Action) → ((ds : List Datum) → Gives Q (next ds)) →
+    Gives Q (with_arguments c scope vs ts es before next)
+gives_arguments c scope vs ts no_trees before next k = k before
+gives_arguments c scope vs ts (more_trees e es) before next k = gives_last (value_of c scope vs e) (λ d. gives_arguments c scope vs (next_types ts) es _ next k)
+
+gives_call : (c : Context) (scope : Scope) → CallsAreRanged c scope → (id : NameId) (ds : List Datum) → Gives (IsNumberOf (result_of (meaning_of scope id))) (c.call id ds)
+gives_call c scope calls id ds = record { from = λ w. go w (c.call id ds w) refl }
+  where
+    go : (w : World) (x : Value) → c.call id ds w ≡ x → Each (IsNumberOf (result_of (meaning_of scope id))) x
+    go w (got d w') e = calls id ds w w' d e
+    go w (halts x w') e = tt
+
+-- ---- expressions
+
+module _ (c : Context) (scope : Scope) (vs : Variables) (calls : CallsAreRanged c scope) (h : AreRanged scope vs) where
+  mutual
+    gives_value : (e : Tree) → Gives (IsNumberOfTyping (typing_of scope e)) (value_of c scope vs e)
+    gives_value (int l k t n) = gives_of (Number t) t refl (gives_given (number (wrap_number t (pos n))) (wrap_in_range t (pos n)))
+    gives_value (name l k id) = gives_name c scope vs id h (variable_named scope id) refl
+    gives_value (index l k base subscript) = gives_element c.arrays (subscripted (value_of c scope vs base) (value_of c scope vs subscript)) (typing_of scope base) (typing_of scope subscript)
+    gives_value (deref l k operand) = gives_pointed c.arrays (value_of c scope vs operand) (typing_of scope operand)
+    gives_value (addr l k operand) = gives_untyped (with_address (typing_of scope operand)) (address_untyped (typing_of scope operand)) (address_of c scope vs operand)
+    gives_value (unary l k op operand) =
+        one_number (unary_type op) (number_type (typing_of scope operand)) (gives_last (value_of c scope vs operand)
+        (λ d. gives_answered (unary_type op (integer_type (typing_of scope operand))) (unary_number op (integer_type (typing_of scope operand)) (number_in d)) (λ r. unary_ranged op (integer_type (typing_of scope operand)) (number_in d) r)))
+    gives_value (binary l k op left right) = gives_operator op (typing_of scope left) (typing_of scope right) (value_of c scope vs left) (value_of c scope vs right)
+    gives_value (choice l k condition first second) = gives_choice (typing_of scope condition) (typing_of scope first) (typing_of scope second) (gives_converted _ _)
+    gives_value (cast l k t operand) = one_number (λ s. t) (number_type (typing_of scope operand)) (gives_converted t (value_of c scope vs operand))
+    gives_value (call l k id arguments) =
+        gives_weaken (gives_arguments c scope vs (wanted_types (meaning_of scope id)) arguments [] (c.call id) (gives_call c scope calls id))
+        (λ d p. called_ranged (are_arguments (wanted_types (meaning_of scope id)) (typings_of scope arguments) && is_callable (meaning_of scope id) (length (typings_of scope arguments))) (meaning_of scope id) d p)
+
+-- the number that an expression gives is one of its type
+pub in_range : (c : Context) (scope : Scope) (vs : Variables) → CallsAreRanged c scope → AreRanged scope vs → (e : Tree) (t : Ty) → number_type (typing_of scope e) ≡ Some t →
+    (w w' : World) (d : Datum) → value_of c scope vs e w ≡ got d w' → IsInRange t (number_in d)
+in_range c scope vs calls h e t f w w' d g = go (value_of c scope vs e w) g ((gives_value c scope vs calls h e).from w) t f
+  where
+    given_datum : Value → Datum
+    given_datum (got x u) = x
+    given_datum (halts x u) = nothing
+
+    go : (x : Value) → x ≡ got d w' → Each (IsNumberOfTyping (typing_of scope e)) x → IsNumberOfTyping (typing_of scope e) d
+    go (got x u) same p = subst (IsNumberOfTyping (typing_of scope e)) (ap given_datum same) p
+    go (halts x u) same p = cc
