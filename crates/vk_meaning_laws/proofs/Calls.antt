@@ -14,7 +14,7 @@ use Rattle.vk_meaning.specs.Programs.{arrays_of, array_number, Definition, defin
 use Rattle.vk_meaning.specs.Meaning.{print_first, fallen, ended, first_variables, Calls, call_by, context_of, called, called_where_defined, call_within}
 use Rattle.vk_meaning_laws.specs.Ranges.{IsNumberOf}
 use Rattle.vk_meaning_laws.specs.Tame.{is_const_object, IsLaneFunction, IsTameProgram}
-use Rattle.vk_meaning_laws.proofs.Sights.{Sight, AlikeValues, both_got, both_halt, Keeps, IsReadable, keeps_given, keeps_cond, keeps_weaken}
+use Rattle.vk_meaning_laws.proofs.Sights.{Sight, TakesWords, AlikeValues, both_got, both_halt, Keeps, IsReadable, keeps_given, keeps_cond, keeps_weaken}
 use Rattle.vk_meaning_laws.proofs.Expressions.{Allowed, free, tame, Free, free_known, AreFine, Sees, zero_in_range}
 use Rattle.vk_meaning_laws.proofs.Variables.{types, InScope, in_itself, in_params, AllFine, fine_first}
 use Rattle.vk_meaning_laws.proofs.Effects.{IsReturned, AlikeOutcomes, both_fell, both_broke, both_continued, both_returned, both_stopped}
@@ -59,7 +59,7 @@ record KeepsCalls (v : Sight) (units : List Subject) (lane : List ℕ → Bool) 
   tame_calls : (text : List ℕ) → lane text ≡ true → (ds : List Datum) → AreFineFor v units text ds → Keeps v (IsReadable v) (calls text ds)
   free_calls : Free v → (text : List ℕ) (ds : List Datum) → Keeps v (IsReadable v) (calls text ds)
 
-module _ {v : Sight} (units : List Subject) (turns : ℕ) where
+module _ {v : Sight} (units : List Subject) (turns : ℕ) (takes : TakesWords v (arrays_of units)) where
   -- ---- everything may be written
 
   keeps_call_by : (calls : Calls) (printing : Bool) (text : List ℕ) (ds : List Datum) → Keeps v (IsReadable v) (calls text ds) → Keeps v (IsReadable v) (call_by calls printing text ds)
@@ -73,7 +73,7 @@ module _ {v : Sight} (units : List Subject) (turns : ℕ) where
       ((goes_run (types (first_point d).scope.inner) sees d.body (first_point d) (in_itself (first_point d).scope) (free all)).from (first_variables ds) w w' (λ k. free_known v all (arrays_of units) _ _) h) }
     where
       sees : Sees v (context_of units turns calls d) (first_point d).scope.file (λ id. true)
-      sees = record { consts = free all; calls = λ id us a. keeps_call_by calls (is_print d.unit.texts id) (text_of d.unit.texts id) us (k (text_of d.unit.texts id) us) }
+      sees = record { words = takes; consts = free all; calls = λ id us a. keeps_call_by calls (is_print d.unit.texts id) (text_of d.unit.texts id) us (k (text_of d.unit.texts id) us) }
 
   free_called : Free v → (calls : Calls) → ((text : List ℕ) (ds : List Datum) → Keeps v (IsReadable v) (calls text ds)) → (o : Option Definition) (ds : List Datum) →
       Keeps v (IsReadable v) (called_where_defined units turns calls o ds)
@@ -96,7 +96,7 @@ module _ {v : Sight} (units : List Subject) (turns : ℕ) where
   module _ (lane : List ℕ → Bool) (program : IsTameProgram units lane) (consts : SeesConsts v units lane) where
     tame_sees : (calls : Calls) → KeepsCalls v units lane calls → (text : List ℕ) (d : Definition) → IsLaneFunction units lane text d →
         Sees v (context_of units turns calls d) (file_meaning d.unit.texts d.items) (λ id. lane (text_of d.unit.texts id))
-    tame_sees calls k text d l = record { consts = tame (consts text d l); calls = by }
+    tame_sees calls k text d l = record { words = takes; consts = tame (consts text d l); calls = by }
       where
         by : (id : NameId) (ds : List Datum) → Allowed v ((lane (text_of d.unit.texts id) ≡ true) × AreFine v (arrays_of units) (wanted_types (file_meaning d.unit.texts d.items id)) ds) →
             Keeps v (IsReadable v) (call_by calls (is_print d.unit.texts id) (text_of d.unit.texts id) ds)

@@ -23,7 +23,7 @@ use Rattle.vk_meaning.specs.Points.{Variable, variable_among, variable_named}
 use Rattle.vk_meaning.specs.Expressions.{Context, Variables, integer_type, pointed_type, object_value, name_value, both, truth_of, integers_value, moved_by, operator_value, converted, subscripted, value_of, address_of, with_arguments}
 use Rattle.vk_meaning.specs.Types.{is_written_type, next_type, next_types}
 use Rattle.vk_meaning_laws.specs.Tame.{is_written_variable, is_written_name, is_const_object, is_readable, is_function, IsTameName, IsZero, IsTameArgument, IsTame, IsTamePlace, AreTame}
-use Rattle.vk_meaning_laws.proofs.Sights.{Sight, Keeps, IsReadable, IsOwned, IsKnown, IsFine, keeps_then, keeps_number, keeps_weaken, keeps_given, keeps_cond, keeps_answered, keeps_moved, keeps_read, keeps_own, keeps_still}
+use Rattle.vk_meaning_laws.proofs.Sights.{Sight, TakesWords, Keeps, IsReadable, IsOwned, IsKnown, IsFine, keeps_then, keeps_number, keeps_weaken, keeps_given, keeps_cond, keeps_answered, keeps_moved, keeps_read, keeps_own, keeps_still}
 
 -- ---- what is allowed
 
@@ -113,6 +113,7 @@ function_is_no_variable (Some (a_function r ps is_simd)) e = refl
 -- What a body may rely on, whose names mean this at file scope: `const` objects may be read, and so may what its calls give. `lane`
 -- tells which functions it may call.
 pub record Sees (v : Sight) (c : Context) (file : NameId → Option Meaning) (lane : NameId → Bool) : Type 0 where
+  pub words : TakesWords v c.arrays
   pub consts : Allowed v ((id : NameId) → is_const_object (file id) ≡ true → (i : ℕ) → v.Seen (c.array id) i)
   pub calls : (id : NameId) (ds : List Datum) → Allowed v ((lane id ≡ true) × AreFine v c.arrays (wanted_types (file id)) ds) → Keeps v (IsReadable v) (c.call id ds)
 

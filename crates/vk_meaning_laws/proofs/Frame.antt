@@ -17,15 +17,16 @@ abbrev behind : (before : List Event) → Sight
 behind before = record {
   Seen = λ a i. Unit {0};
   Own = λ a i. Unit {0};
+  Word = λ a x. Unit {0};
   Alike = IsBehind before;
   own_seen = λ a i o. tt;
   reads = λ w w' h a i s. ap (λ (m : Memory). m a i) h.memory;
-  writes = λ w w' h a i x o. record { memory = ap (λ (m : Memory). with_cell m a i x) h.memory; events = h.events };
+  writes = λ w w' h a i x o t. record { memory = ap (λ (m : Memory). with_cell m a i x) h.memory; events = h.events };
   tells = λ w w' h e. record { memory = h.memory; events = ap (λ (es : List Event). es ++ e ∷ []) h.events ∙ append_assoc before w.events (e ∷ []) };
 }
 
 pub stands_behind : (units : List Subject) (turns : ℕ) (text : List ℕ) (ds : List Datum) (w : World) → call_of units turns text ds w ≡ behind_events w.events (means units turns text ds w.memory)
-stands_behind units turns text ds w = go _ _ ((free_call {v = behind w.events} units turns (λ a i. tt) 32 text ds).from (record { memory = w.memory; events = [] }) w
+stands_behind units turns text ds w = go _ _ ((free_call {v = behind w.events} units turns (λ a z. tt) (λ a i. tt) 32 text ds).from (record { memory = w.memory; events = [] }) w
     (record { memory = refl; events = sym (append-nil w.events) }))
   where
     go : (x x' : Value) → AlikeValues (behind w.events) (IsReadable (behind w.events)) x x' → x' ≡ behind_events w.events x

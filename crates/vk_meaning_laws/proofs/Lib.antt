@@ -8,3 +8,4 @@ mod Locality
 mod Frame
 mod Depth
 mod Ranges
+mod Words

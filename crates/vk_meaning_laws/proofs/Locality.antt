@@ -26,10 +26,11 @@ abbrev agreement : (Seen Own : ℕ → ℕ → Type 0) → ((a i : ℕ) → Own 
 agreement Seen Own inside = record {
   Seen = Seen;
   Own = Own;
+  Word = λ a x. Unit {0};
   Alike = AreAlikeOn Seen;
   own_seen = inside;
   reads = λ w w' h a i s. h.memory a i s;
-  writes = λ w w' h a i x o. record { memory = λ b k s. ap (cond ((b == a) && (k == i)) x) (h.memory b k s); events = h.events };
+  writes = λ w w' h a i x o t. record { memory = λ b k s. ap (cond ((b == a) && (k == i)) x) (h.memory b k s); events = h.events };
   tells = λ w w' h e. record { memory = h.memory; events = ap (λ (es : List Event). es ++ e ∷ []) h.events };
 }
 
@@ -60,10 +61,11 @@ abbrev unchanging : (Own : ℕ → ℕ → Type 0) → Memory → Sight
 unchanging Own m = record {
   Seen = λ a i. Unit {0};
   Own = Own;
+  Word = λ a x. Unit {0};
   Alike = IsUnchanged Own m;
   own_seen = λ a i o. tt;
   reads = λ w w' h a i s. ap (λ (u : World). u.memory a i) h.same;
-  writes = unchanged_writes Own m;
+  writes = λ w w' h a i x o t. unchanged_writes Own m w w' h a i x o;
   tells = λ w w' h e. record { same = ap (λ (u : World). with_event u e) h.same; others = h.others };
 }
 
@@ -130,7 +132,7 @@ pub reads_within : (units : List Subject) (lane : List ℕ → Bool) (turns : �
     EndAlikeOn Cells (means units turns text ds m) (means units turns text ds m')
 reads_within units lane turns program fixed text d l ds Cells covers m m' h =
     ends_alike Cells (NamesCell (types_of d.function.params) (arrays_of units) ds) covers.own _ _
-    ((tame_call {v = agreement Cells (NamesCell (types_of d.function.params) (arrays_of units) ds) covers.own} units turns lane program
+    ((tame_call {v = agreement Cells (NamesCell (types_of d.function.params) (arrays_of units) ds) covers.own} units turns (λ b z. tt) lane program
     (sees_fixed (agreement Cells (NamesCell (types_of d.function.params) (arrays_of units) ds) covers.own) units lane fixed covers.consts) 32 text l.lane_function ds
     (fine_for (agreement Cells (NamesCell (types_of d.function.params) (arrays_of units) ds) covers.own) units text d l.definition ds
     (fine_arguments (agreement Cells (NamesCell (types_of d.function.params) (arrays_of units) ds) covers.own) (types_of d.function.params) (arrays_of units) ds (λ a i n. n) covers.reads))).from
@@ -147,7 +149,7 @@ pub writes_within : (units : List Subject) (lane : List ℕ → Bool) (turns : �
     (ds : List Datum) (m : Memory) (a i : ℕ) → (NamesCell (types_of d.function.params) (arrays_of units) ds a i → ⊥) → memory_of (means units turns text ds m) a i ≡ m a i
 writes_within units lane turns program text d l ds m a i n =
     stays (NamesCell (types_of d.function.params) (arrays_of units) ds) m a i n _ _
-    ((tame_call {v = unchanging (NamesCell (types_of d.function.params) (arrays_of units) ds) m} units turns lane program (λ t f lf id const k. tt) 32 text l.lane_function ds
+    ((tame_call {v = unchanging (NamesCell (types_of d.function.params) (arrays_of units) ds) m} units turns (λ b z. tt) lane program (λ t f lf id const k. tt) 32 text l.lane_function ds
     (fine_for (unchanging (NamesCell (types_of d.function.params) (arrays_of units) ds) m) units text d l.definition ds
     (fine_arguments (unchanging (NamesCell (types_of d.function.params) (arrays_of units) ds) m) (types_of d.function.params) (arrays_of units) ds (λ b k h. h) (λ b k r. tt)))).from
     (empty_world m) (empty_world m) (record { same = refl; others = λ b k not_own. refl }))

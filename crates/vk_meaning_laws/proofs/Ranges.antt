@@ -308,20 +308,19 @@ gives_call c scope calls id ds = record { from = λ w. go w (c.call id ds w) ref
 -- ---- expressions
 
 module _ (c : Context) (scope : Scope) (vs : Variables) (calls : CallsAreRanged c scope) (h : AreRanged scope vs) where
-  mutual
-    gives_value : (e : Tree) → Gives (IsNumberOfTyping (typing_of scope e)) (value_of c scope vs e)
-    gives_value (int l k t n) = gives_of (Number t) t refl (gives_given (number (wrap_number t (pos n))) (wrap_in_range t (pos n)))
-    gives_value (name l k id) = gives_name c scope vs id h (variable_named scope id) refl
-    gives_value (index l k base subscript) = gives_element c.arrays (subscripted (value_of c scope vs base) (value_of c scope vs subscript)) (typing_of scope base) (typing_of scope subscript)
-    gives_value (deref l k operand) = gives_pointed c.arrays (value_of c scope vs operand) (typing_of scope operand)
-    gives_value (addr l k operand) = gives_untyped (with_address (typing_of scope operand)) (address_untyped (typing_of scope operand)) (address_of c scope vs operand)
-    gives_value (unary l k op operand) =
+  gives_value : (e : Tree) → Gives (IsNumberOfTyping (typing_of scope e)) (value_of c scope vs e)
+  gives_value (int l k t n) = gives_of (Number t) t refl (gives_given (number (wrap_number t (pos n))) (wrap_in_range t (pos n)))
+  gives_value (name l k id) = gives_name c scope vs id h (variable_named scope id) refl
+  gives_value (index l k base subscript) = gives_element c.arrays (subscripted (value_of c scope vs base) (value_of c scope vs subscript)) (typing_of scope base) (typing_of scope subscript)
+  gives_value (deref l k operand) = gives_pointed c.arrays (value_of c scope vs operand) (typing_of scope operand)
+  gives_value (addr l k operand) = gives_untyped (with_address (typing_of scope operand)) (address_untyped (typing_of scope operand)) (address_of c scope vs operand)
+  gives_value (unary l k op operand) =
         one_number (unary_type op) (number_type (typing_of scope operand)) (gives_last (value_of c scope vs operand)
         (λ d. gives_answered (unary_type op (integer_type (typing_of scope operand))) (unary_number op (integer_type (typing_of scope operand)) (number_in d)) (λ r. unary_ranged op (integer_type (typing_of scope operand)) (number_in d) r)))
-    gives_value (binary l k op left right) = gives_operator op (typing_of scope left) (typing_of scope right) (value_of c scope vs left) (value_of c scope vs right)
-    gives_value (choice l k condition first second) = gives_choice (typing_of scope condition) (typing_of scope first) (typing_of scope second) (gives_converted _ _)
-    gives_value (cast l k t operand) = one_number (λ s. t) (number_type (typing_of scope operand)) (gives_converted t (value_of c scope vs operand))
-    gives_value (call l k id arguments) =
+  gives_value (binary l k op left right) = gives_operator op (typing_of scope left) (typing_of scope right) (value_of c scope vs left) (value_of c scope vs right)
+  gives_value (choice l k condition first second) = gives_choice (typing_of scope condition) (typing_of scope first) (typing_of scope second) (gives_converted _ _)
+  gives_value (cast l k t operand) = one_number (λ s. t) (number_type (typing_of scope operand)) (gives_converted t (value_of c scope vs operand))
+  gives_value (call l k id arguments) =
         gives_weaken (gives_arguments c scope vs (wanted_types (meaning_of scope id)) arguments [] (c.call id) (gives_call c scope calls id))
         (λ d p. called_ranged (are_arguments (wanted_types (meaning_of scope id)) (typings_of scope arguments) && is_callable (meaning_of scope id) (length (typings_of scope arguments))) (meaning_of scope id) d p)
 

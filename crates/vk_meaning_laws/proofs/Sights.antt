@@ -16,11 +16,17 @@ pub record Sight : Type 1 where
   -- the elements that may be read, and those that may be written
   pub Seen : ℕ → ℕ → Type 0
   pub Own : ℕ → ℕ → Type 0
+  -- the words that may be stored in an array
+  pub Word : (array word : ℕ) → Type 0
   pub Alike : World → World → Type 0
   pub own_seen : (a i : ℕ) → Own a i → Seen a i
   pub reads : (w w' : World) → Alike w w' → (a i : ℕ) → Seen a i → w.memory a i ≡ w'.memory a i
-  pub writes : (w w' : World) → Alike w w' → (a i x : ℕ) → Own a i → Alike (in_memory w (with_cell w.memory a i x)) (in_memory w' (with_cell w'.memory a i x))
+  pub writes : (w w' : World) → Alike w w' → (a i x : ℕ) → Own a i → Word a x → Alike (in_memory w (with_cell w.memory a i x)) (in_memory w' (with_cell w'.memory a i x))
   pub tells : (w w' : World) → Alike w w' → (e : Event) → Alike (with_event w e) (with_event w' e)
+
+-- numbers of these arrays' types may be stored
+abbrev pub TakesWords : Sight → List Array → Type 0
+TakesWords v arrays = (a : ℕ) (z : ℤ) → v.Word a (word_of (wrap_number (array_at arrays a).ty z))
 
 -- the same ending in both runs
 pub data AlikeValues (v : Sight) (P : Datum → Type 0) : Value → Value → Type 0 where
@@ -127,15 +133,15 @@ module _ {v : Sight} where
   keeps_own arrays t d p = keeps_loaded arrays t d (λ i e. v.own_seen (array_of d) i (p i e))
 
   -- a store to an element that may be written
-  pub keeps_stored : (arrays : List Array) (d : Datum) (z : ℤ) → IsOwned v arrays d → Keeps v (IsReadable v) (stored arrays d z)
-  keeps_stored arrays d z p = record { from = λ w w' h. go w w' h (named_element arrays d) refl }
+  pub keeps_stored : (arrays : List Array) → TakesWords v arrays → (d : Datum) (z : ℤ) → IsOwned v arrays d → Keeps v (IsReadable v) (stored arrays d z)
+  keeps_stored arrays takes d z p = record { from = λ w w' h. go w w' h (named_element arrays d) refl }
     where
       store : ℕ → Action
       store i u = got nothing (in_memory u (with_cell u.memory (array_of d) i (word_of (wrap_number (array_at arrays (array_of d)).ty z))))
 
       go : (w w' : World) → v.Alike w w' → (e : Option ℕ) → named_element arrays d ≡ e → AlikeValues v (IsReadable v) (at_element e store w) (at_element e store w')
       go w w' h None e = both_halt Bounds w w' h
-      go w w' h (Some i) e = both_got nothing _ _ tt (v.writes w w' h (array_of d) i _ (p i e))
+      go w w' h (Some i) e = both_got nothing _ _ tt (v.writes w w' h (array_of d) i _ (p i e) (takes (array_of d) z))
 
   keeps_here : (arrays : List Array) (fits : Bool) (a : ℕ) (o : ℤ) → IsOwned v arrays (pointer a o) → Keeps v (IsOwned v arrays) (pointer_at fits a o)
   keeps_here arrays true a o p = record { from = λ w w' h. both_got (pointer a o) w w' p h }

@@ -22,7 +22,7 @@ use Rattle.vk_meaning.specs.Types.{is_written_type}
 use Rattle.vk_meaning.specs.Statements.{fell, Effect, Evaluation, then_do, combined, assigned, assigned_by, assignment_to, variable_of, condition_of, initialised, declared, return_of, told, told_by, run, run_simd, run_all}
 use Rattle.vk_meaning_laws.specs.Ranges.{IsNumberOf}
 use Rattle.vk_meaning_laws.specs.Tame.{IsTame, IsTameOptional, IsWrittenElement, IsTameTarget, IsTameStmt, AreTameStmts}
-use Rattle.vk_meaning_laws.proofs.Sights.{Sight, AlikeValues, both_got, both_halt, Keeps, IsReadable, IsOwned, keeps_then, keeps_number, keeps_weaken, keeps_given, keeps_own, keeps_read, keeps_stored, keeps_answered}
+use Rattle.vk_meaning_laws.proofs.Sights.{Sight, TakesWords, AlikeValues, both_got, both_halt, Keeps, IsReadable, IsOwned, keeps_then, keeps_number, keeps_weaken, keeps_given, keeps_own, keeps_read, keeps_stored, keeps_answered}
 use Rattle.vk_meaning_laws.proofs.Expressions.{Allowed, free, tame, allow, Free, free_readable, free_known, readable_as, HaveFine, Sees, Stands, zero_in_range, keeps_both, keeps_value, keeps_address, keeps_written, keeps_first}
 use Rattle.vk_meaning_laws.proofs.Variables.{InScope, in_binding, in_inside, in_after, AllFine, fine_in, fine_assigned, fine_declared}
 use Rattle.vk_meaning_laws.proofs.Effects.{IsReturned, AlikeOutcomes, both_fell, both_returned, Goes, Evaluates, on_alike, goes_fell, goes_broke, goes_continued, goes_then, goes_branch, goes_turns, goes_repeat, goes_looped, goes_evaluate, goes_assign}
@@ -37,12 +37,12 @@ module _ {v : Sight} where
   keeps_combined op s t h k = keeps_both h k (λ x y. keeps_answered (binary_number op s t x y))
 
   -- a place that may be written
-  keeps_assigned : {Q : Datum → Type 0} {place e : Action} (c : Context) (t : Ty) → Keeps v (IsOwned v c.arrays) place → Keeps v Q e → Keeps v (IsReadable v) (assigned c t place e)
-  keeps_assigned c t h k = keeps_then h (λ p r. keeps_number k (λ z. keeps_stored c.arrays p (wrap_number t z) r))
+  keeps_assigned : {Q : Datum → Type 0} {place e : Action} (c : Context) → TakesWords v c.arrays → (t : Ty) → Keeps v (IsOwned v c.arrays) place → Keeps v Q e → Keeps v (IsReadable v) (assigned c t place e)
+  keeps_assigned c takes t h k = keeps_then h (λ p r. keeps_number k (λ z. keeps_stored c.arrays takes p (wrap_number t z) r))
 
-  keeps_assigned_by : {Q : Datum → Type 0} {place e : Action} (c : Context) (op : BinOp) (s t : Ty) → Keeps v (IsOwned v c.arrays) place → Keeps v Q e → Keeps v (IsReadable v) (assigned_by c op s t place e)
-  keeps_assigned_by c op s t h k =
-      keeps_then h (λ p r. keeps_number (keeps_combined op s t (keeps_own c.arrays s p r) k) (λ z. keeps_stored c.arrays p (wrap_number s z) r))
+  keeps_assigned_by : {Q : Datum → Type 0} {place e : Action} (c : Context) → TakesWords v c.arrays → (op : BinOp) (s t : Ty) → Keeps v (IsOwned v c.arrays) place → Keeps v Q e → Keeps v (IsReadable v) (assigned_by c op s t place e)
+  keeps_assigned_by c takes op s t h k =
+      keeps_then h (λ p r. keeps_number (keeps_combined op s t (keeps_own c.arrays s p r) k) (λ z. keeps_stored c.arrays takes p (wrap_number s z) r))
 
 -- ---- statements
 
@@ -111,9 +111,9 @@ module _ {v : Sight} {c : Context} {file : NameId → Option Meaning} {lane : Na
       goes_assign x _ (assigns scope i place x same (allow (λ t. t.0) h))
       (λ vs f. keeps_combined op (integer_type (typing_of scope place)) (integer_type (typing_of scope e)) (keeps_old scope vs i f place x same (allow (λ t. t.0) h)) (goes_value scope i e (allow (λ t. t.1) h) vs f))
   goes_assignment scope i None None place e same h =
-      goes_evaluate _ (λ vs f. keeps_assigned c (integer_type (typing_of scope place)) (keeps_place scope vs i f place (allow (λ t. t.0) h)) (goes_value scope i e (allow (λ t. t.1) h) vs f))
+      goes_evaluate _ (λ vs f. keeps_assigned c sees.words (integer_type (typing_of scope place)) (keeps_place scope vs i f place (allow (λ t. t.0) h)) (goes_value scope i e (allow (λ t. t.1) h) vs f))
   goes_assignment scope i None (Some op) place e same h =
-      goes_evaluate _ (λ vs f. keeps_assigned_by c op (integer_type (typing_of scope place)) (integer_type (typing_of scope e)) (keeps_place scope vs i f place (allow (λ t. t.0) h)) (goes_value scope i e (allow (λ t. t.1) h) vs f))
+      goes_evaluate _ (λ vs f. keeps_assigned_by c sees.words op (integer_type (typing_of scope place)) (integer_type (typing_of scope e)) (keeps_place scope vs i f place (allow (λ t. t.0) h)) (goes_value scope i e (allow (λ t. t.1) h) vs f))
 
   goes_initialised : (scope : Scope) → InScope ts file scope → (x : Variable) (init : Option Tree) → Allowed v (IsTameOptional lane scope init) →
       ((vs : Variables) → F vs → (d : Datum) → IsReadable v d → F (with_datum vs x.number (as_type x.ctype d))) → Goes v F c.result (initialised c scope x init)
