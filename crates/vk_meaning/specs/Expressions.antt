@@ -14,12 +14,12 @@ use Rattle.vk_ast.specs.declared.expressions.BinOp.TheVariants.{Sub, LogAnd, Log
 use Rattle.vk_ast.specs.Tree.{Tree, Trees, int, name, index, deref, addr, unary, binary, choice, cast, call, no_trees, more_trees}
 use Rattle.vk_numbers.specs.Operators.{is_on, unary_number, binary_number}
 use Rattle.vk_rules_book.specs.declared.typings.Typing.{Typing}
-use Rattle.vk_rules_book.specs.declared.typings.Typing.TheVariants.{Number, Variable as AVariable, Cell, Pointer, Nothing, Function, Untyped}
+use Rattle.vk_rules_book.specs.declared.typings.Typing.TheVariants.{Pointer}
 use Rattle.vk_rules_book.specs.Scopes.{Scope, Meaning, an_object, meaning_of}
 use Rattle.vk_rules_book.specs.Typings.{number_type, moves_left, moves_right, wanted_types, typing_of}
 use Rattle.vk_meaning.specs.Types.{next_type, next_types}
 use Rattle.vk_meaning.specs.World.{Array}
-use Rattle.vk_meaning.specs.Data.{Datum, number, pointer, nothing, number_in, as_type, got, halts, Action, given, and_then, then_number, moved, loaded}
+use Rattle.vk_meaning.specs.Data.{Datum, number, pointer, nothing, as_type, got, halts, Action, given, and_then, then_number, moved, loaded}
 use Rattle.vk_meaning.specs.Points.{Variable, variable_named}
 
 -- What the body of a function needs of the program that it stands in.

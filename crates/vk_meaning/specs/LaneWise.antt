@@ -3,10 +3,9 @@ use Rattle.std.specs.Prelude.{◌≡◌, ℕ, ◌<◌, Bool, true, false, List, 
 use Rattle.vk_types.specs.declared.types.Stop.{Stop}
 use Rattle.vk_types.specs.Numbers.{word_of}
 use Rattle.vk_kinds.specs.declared.heads.CType.{CType}
-use Rattle.vk_rules_book.specs.Rules.{Subject}
 use Rattle.vk_meaning.specs.World.{Array, Memory}
 use Rattle.vk_meaning.specs.Data.{Datum, number, pointer, nothing, Value, got, halts}
-use Rattle.vk_meaning.specs.Meaning.{means, memory_of}
+use Rattle.vk_meaning.specs.Meaning.{memory_of}
 use Rattle.vk_meaning.specs.Lanes.{Words, arguments_of, NamesCell}
 
 -- A lane has this value as its new result and no stop, or this stop and its old result. A void function has no result, and nothing is

@@ -2,7 +2,6 @@
 use Rattle.std.specs.Prelude.{ℕ, zero, suc, Bool, cond, List, [], ◌∷◌, codes, get_or, filter_map, flat_map, ◌++◌, Option, Some, None, ℤ, pos}
 use Rattle.std.specs.Fmt.{signed_decimal}
 use Rattle.vk_types.specs.declared.types.Stop.{Stop}
-use Rattle.vk_types.specs.declared.types.Ty.TheVariants.{I64}
 use Rattle.vk_kinds.specs.declared.heads.CType.{CType}
 use Rattle.vk_kinds.specs.declared.heads.CType.TheVariants.{Void, Int, Ptr}
 use Rattle.vk_rules_book.specs.Scopes.{text_of, is_print}
@@ -10,7 +9,7 @@ use Rattle.vk_rules_book.specs.Rules.{Subject}
 use Rattle.vk_meaning.specs.World.{Memory, first_memory, Event, printed, simd_loop, with_event, World}
 use Rattle.vk_meaning.specs.Data.{Datum, number, nothing, number_in, Value, got, halts, Action, given}
 use Rattle.vk_meaning.specs.Expressions.{Context, Variables}
-use Rattle.vk_meaning.specs.Statements.{State, Outcome, fell, broke, continued, returned, stopped, run}
+use Rattle.vk_meaning.specs.Statements.{Outcome, fell, broke, continued, returned, stopped, run}
 use Rattle.vk_meaning.specs.Programs.{arrays_of, array_number, Definition, definition_of, first_point}
 
 -- ---- calls

@@ -1,11 +1,10 @@
 -- What a statement does (C17 6.8).
-use Rattle.std.specs.Prelude.{ℕ, zero, suc, Bool, cond, List, length, Option, Some, None, ℤ, pos, ◌-ℤ◌, unsigned_abs, int_le}
+use Rattle.std.specs.Prelude.{ℕ, zero, suc, Bool, cond, length, Option, Some, None, ℤ, pos, ◌-ℤ◌, unsigned_abs, int_le}
 use Rattle.vk_types.specs.declared.types.Ty.{Ty}
 use Rattle.vk_types.specs.declared.types.Stop.{Stop}
 use Rattle.vk_types.specs.declared.types.Stop.TheVariants.{Turns}
 use Rattle.vk_types.specs.Numbers.{wrap_number}
-use Rattle.vk_kinds.specs.declared.heads.CType.{CType}
-use Rattle.vk_kinds.specs.declared.heads.CType.TheVariants.{Void, Int, Ptr}
+use Rattle.vk_kinds.specs.declared.heads.CType.TheVariants.{Int}
 use Rattle.vk_ast.specs.declared.names.NameId.{NameId}
 use Rattle.vk_ast.specs.declared.expressions.BinOp.{BinOp}
 use Rattle.vk_ast.specs.declared.expressions.BinOp.TheVariants.{Lt}

@@ -1,22 +1,22 @@
 -- A call of a tame function, or any call where everything may be written, ends alike in two related worlds.
-use Rattle.std.proofs.Common.{◌≡◌, ℕ, zero, suc, Bool, true, false, cond, List, [], ◌∷◌, Option, Some, None, refl, subst, sym, ap}
+use Rattle.std.proofs.Common.{◌≡◌, ℕ, zero, suc, Bool, true, false, List, [], ◌∷◌, Option, Some, None, refl, subst, sym}
 use Rattle.vk_kinds.specs.declared.heads.CType.{CType}
 use Rattle.vk_kinds.specs.declared.heads.CType.TheVariants.{Void, Int, Ptr}
 use Rattle.vk_ast.specs.declared.names.NameId.{NameId}
-use Rattle.vk_rules_book.specs.Scopes.{Meaning, text_of, is_print, file_meaning, file_scope, types_of}
+use Rattle.vk_rules_book.specs.Scopes.{text_of, is_print, file_meaning, file_scope, types_of}
 use Rattle.vk_rules_book.specs.Typings.{wanted_types}
 use Rattle.vk_rules_book.specs.Rules.{Subject}
-use Rattle.vk_meaning.specs.World.{World, printed}
-use Rattle.vk_meaning.specs.Data.{Datum, nothing, number_in, got, Action, given}
+use Rattle.vk_meaning.specs.World.{printed}
+use Rattle.vk_meaning.specs.Data.{Datum, nothing, number_in}
 use Rattle.vk_meaning.specs.Expressions.{Variables}
 use Rattle.vk_meaning.specs.Statements.{Outcome}
 use Rattle.vk_meaning.specs.Programs.{arrays_of, array_number, Definition, definition_of, first_point}
 use Rattle.vk_meaning.specs.Meaning.{print_first, fallen, ended, first_variables, Calls, call_by, context_of, called, called_where_defined, call_within}
 use Rattle.vk_meaning_laws.specs.Ranges.{IsNumberOf}
 use Rattle.vk_meaning_laws.specs.Tame.{is_const_object, IsLaneFunction, IsTameProgram}
-use Rattle.vk_meaning_laws.proofs.Sights.{Sight, TakesWords, AlikeValues, both_got, both_halt, Keeps, IsReadable, keeps_given, keeps_cond, keeps_weaken}
+use Rattle.vk_meaning_laws.proofs.Sights.{Sight, TakesWords, AlikeValues, both_got, both_halt, Keeps, IsReadable, keeps_given, keeps_weaken}
 use Rattle.vk_meaning_laws.proofs.Expressions.{Allowed, free, tame, Free, free_known, AreFine, Sees, zero_in_range}
-use Rattle.vk_meaning_laws.proofs.Variables.{types, InScope, in_itself, in_params, AllFine, fine_first}
+use Rattle.vk_meaning_laws.proofs.Variables.{types, in_itself, in_params, AllFine, fine_first}
 use Rattle.vk_meaning_laws.proofs.Effects.{IsReturned, AlikeOutcomes, both_fell, both_broke, both_continued, both_returned, both_stopped}
 use Rattle.vk_meaning_laws.proofs.Statements.{nothing_returned, goes_run}
 
@@ -68,9 +68,11 @@ module _ {v : Sight} (units : List Subject) (turns : ℕ) (takes : TakesWords v 
 
   free_defined : Free v → (calls : Calls) → ((text : List ℕ) (ds : List Datum) → Keeps v (IsReadable v) (calls text ds)) → (d : Definition) (ds : List Datum) →
       Keeps v (IsReturned v d.function.result) (called units turns calls d ds)
-  free_defined all calls k d ds = record { from = λ w w' h.
-      ended_alike v (AllFine v (arrays_of units) (types (first_point d).scope.inner)) d.function.result _ _
-      ((goes_run (types (first_point d).scope.inner) sees d.body (first_point d) (in_itself (first_point d).scope) (free all)).from (first_variables ds) w w' (λ k. free_known v all (arrays_of units) _ _) h) }
+  free_defined all calls k d ds = record {
+    from = λ w w' h.
+        ended_alike v (AllFine v (arrays_of units) (types (first_point d).scope.inner)) d.function.result _ _
+        ((goes_run (types (first_point d).scope.inner) sees d.body (first_point d) (in_itself (first_point d).scope) (free all)).from (first_variables ds) w w' (λ k. free_known v all (arrays_of units) _ _) h);
+  }
     where
       sees : Sees v (context_of units turns calls d) (first_point d).scope.file (λ id. true)
       sees = record { words = takes; consts = free all; calls = λ id us a. keeps_call_by calls (is_print d.unit.texts id) (text_of d.unit.texts id) us (k (text_of d.unit.texts id) us) }
@@ -107,11 +109,13 @@ module _ {v : Sight} (units : List Subject) (turns : ℕ) (takes : TakesWords v 
 
     tame_defined : (calls : Calls) → KeepsCalls v units lane calls → (text : List ℕ) (d : Definition) → IsLaneFunction units lane text d → (ds : List Datum) →
         AreFine v (arrays_of units) (types_of d.function.params) ds → Keeps v (IsReturned v d.function.result) (called units turns calls d ds)
-    tame_defined calls k text d l ds fine = record { from = λ w w' h.
-        ended_alike v (AllFine v (arrays_of units) (types_of d.function.params)) d.function.result _ _
-        ((goes_run (types_of d.function.params) (tame_sees calls k text d l) d.body (first_point d)
-        (in_params d.function.params (file_scope d.unit.texts d.items) refl (program.named text d l)) (tame (program.body text d l))).from
-        (first_variables ds) w w' (fine_first v (arrays_of units) (types_of d.function.params) ds fine) h) }
+    tame_defined calls k text d l ds fine = record {
+      from = λ w w' h.
+          ended_alike v (AllFine v (arrays_of units) (types_of d.function.params)) d.function.result _ _
+          ((goes_run (types_of d.function.params) (tame_sees calls k text d l) d.body (first_point d)
+          (in_params d.function.params (file_scope d.unit.texts d.items) refl (program.named text d l)) (tame (program.body text d l))).from
+          (first_variables ds) w w' (fine_first v (arrays_of units) (types_of d.function.params) ds fine) h);
+    }
 
     tame_called : (calls : Calls) → KeepsCalls v units lane calls → (text : List ℕ) → lane text ≡ true → (ds : List Datum) → (o : Option Definition) → definition_of units text ≡ o →
         ((d : Definition) → o ≡ Some d → AreFine v (arrays_of units) (types_of d.function.params) ds) → Keeps v (IsReadable v) (called_where_defined units turns calls o ds)

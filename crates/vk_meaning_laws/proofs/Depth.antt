@@ -1,5 +1,5 @@
 -- What a body does hangs on the calls that stand in it alone, so a deeper meaning is the same where chains of calls are short.
-use Rattle.std.proofs.Common.{◌≡◌, ℕ, zero, suc, ◌+◌, ◌≤◌, Bool, true, false, List, [], ◌∷◌, ◌++◌, length, Option, Some, None, pos, refl, subst, sym, arith, ◌⊎◌, inl, inr}
+use Rattle.std.proofs.Common.{◌≡◌, ℕ, zero, suc, ◌≤◌, Bool, true, false, List, [], ◌∷◌, ◌++◌, length, Option, Some, None, pos, refl, subst, sym, arith, ◌⊎◌, inl, inr}
 use Rattle.vk_types.specs.declared.types.Ty.{Ty}
 use Rattle.vk_types.specs.Numbers.{wrap_number}
 use Rattle.vk_types.specs.Conversions.{common_type}
@@ -16,11 +16,11 @@ use Rattle.vk_rules_book.specs.Typings.{wanted_types, typing_of}
 use Rattle.vk_rules_book.specs.Rules.{Subject}
 use Rattle.vk_meaning.specs.Types.{next_type, next_types}
 use Rattle.vk_meaning.specs.World.{simd_loop, with_event}
-use Rattle.vk_meaning.specs.Data.{Datum, number, nothing, number_in, as_type, got, Action, and_then, then_number, moved, loaded}
-use Rattle.vk_meaning.specs.Points.{Variable, variable_named, Point, past, branch_point, head_point, block_point, behind, loops_in}
+use Rattle.vk_meaning.specs.Data.{Datum, number, nothing, number_in, as_type, got, Action, and_then, then_number, loaded}
+use Rattle.vk_meaning.specs.Points.{Variable, Point, past, branch_point, head_point, block_point, behind, loops_in}
 use Rattle.vk_meaning.specs.Expressions.{Context, Variables, integer_type, pointed_type, answered, operator_value, chosen, converted, subscripted, value_of, address_of, with_arguments}
 use Rattle.vk_meaning.specs.Guards.{guard_pairs, guard_holds}
-use Rattle.vk_meaning.specs.Statements.{at_world, with_variable, fell, returned, on_value, then_do, branch, turns, repeat, looped, assign_variable, evaluate, combined, assigned, assigned_by, assignment_to, variable_of, condition_of, iterations, initialised, declared, return_of, told, told_by, run, run_simd, run_all}
+use Rattle.vk_meaning.specs.Statements.{at_world, with_variable, fell, returned, on_value, then_do, branch, turns, repeat, looped, assign_variable, evaluate, combined, assigned, assigned_by, assignment_to, variable_of, condition_of, iterations, initialised, return_of, told, told_by, run, run_simd, run_all}
 use Rattle.vk_meaning.specs.Programs.{Definition, definition_of, first_point}
 use Rattle.vk_meaning.specs.Meaning.{ended, first_variables, Calls, call_by, context_of, called_where_defined, call_within, call_of}
 use Rattle.vk_meaning_laws.specs.Depth.{EachCall, EachCallOf, EachCallMaybe, EachCallIn, EachCallInLoop, EachCallInAll, EachCallee, IsShallow}

@@ -1,6 +1,5 @@
 -- An expression ends alike in two related worlds, where it is tame or everything may be written.
-use Rattle.std.proofs.Common.{◌≡◌, ◌⊎◌, ℕ, ◌+◌, Bool, true, false, cond, List, [], ◌∷◌, ◌++◌, length, Option, Some, None, ℤ, pos, neg_ℤ, refl, subst, sym, ap, rules, ◌∙◌, append_assoc, append-nil, inl, inr, arith}
-use Rattle.std.specs.Option.{option_or}
+use Rattle.std.proofs.Common.{◌≡◌, ℕ, Bool, true, false, List, [], ◌∷◌, ◌++◌, Option, Some, None, ℤ, pos, neg_ℤ, refl, subst, sym, ap, rules, ◌∙◌, append_assoc, append-nil, inl, inr}
 use Rattle.vk_types.specs.declared.types.Ty.{Ty}
 use Rattle.vk_types.specs.declared.types.Ty.TheVariants.{I8, I16, I32, I64, U8, U16, U32, U64}
 use Rattle.vk_types.specs.Numbers.{wrap_number, IsInRange}
@@ -15,11 +14,11 @@ use Rattle.vk_numbers.specs.Operators.{is_on, unary_number, binary_number}
 use Rattle.vk_numbers.proofs.Numbers.{wrap_keeps}
 use Rattle.vk_rules_book.specs.declared.contexts.Binding.{Binding}
 use Rattle.vk_rules_book.specs.declared.typings.Typing.{Typing}
-use Rattle.vk_rules_book.specs.Scopes.{Scope, Meaning, a_variable, an_object, a_function, same_name, inner_or, last_binding, meaning_of}
+use Rattle.vk_rules_book.specs.Scopes.{Scope, Meaning, a_variable, an_object, a_function, inner_or, last_binding, meaning_of}
 use Rattle.vk_rules_book.specs.Typings.{moves_left, moves_right, wanted_types, typing_of}
 use Rattle.vk_meaning.specs.World.{Array}
 use Rattle.vk_meaning.specs.Data.{Datum, number, pointer, nothing, pointer_in, as_type, Action, given, and_then, moved, loaded}
-use Rattle.vk_meaning.specs.Points.{Variable, variable_among, variable_named}
+use Rattle.vk_meaning.specs.Points.{Variable, variable_named}
 use Rattle.vk_meaning.specs.Expressions.{Context, Variables, integer_type, pointed_type, object_value, name_value, both, truth_of, integers_value, moved_by, operator_value, converted, subscripted, value_of, address_of, with_arguments}
 use Rattle.vk_meaning.specs.Types.{is_written_type, next_type, next_types}
 use Rattle.vk_meaning_laws.specs.Tame.{is_written_variable, is_written_name, is_const_object, is_readable, is_function, IsTameName, IsZero, IsTameArgument, IsTame, IsTamePlace, AreTame}

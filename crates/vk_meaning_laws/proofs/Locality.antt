@@ -1,20 +1,17 @@
 -- A call of a tame function reads and writes nothing but what its arguments and `const` objects let it.
-use Rattle.std.proofs.Common.{◌≡◌, ◌≢◌, ◌<◌, ◌≤◌, ℕ, zero, suc, Option, None, ◌+◌, ◌==◌, Bool, true, false, cond, ◌&&◌, List, [], ◌∷◌, ◌++◌, length, get_or, Some, refl, subst, sym, ap, arith, rules, ◌∙◌}
-use Rattle.vk_types.specs.declared.types.Stop.{Stop}
-use Rattle.vk_types.specs.Numbers.{number_of}
+use Rattle.std.proofs.Common.{◌≡◌, ◌<◌, ℕ, zero, suc, Option, None, ◌==◌, Bool, true, false, cond, ◌&&◌, List, [], ◌∷◌, ◌++◌, length, get_or, Some, refl, subst, sym, ap, arith, rules, ◌∙◌}
 use Rattle.vk_kinds.specs.declared.heads.CType.{CType}
 use Rattle.vk_kinds.specs.declared.heads.CType.TheVariants.{Void, Int, Ptr}
-use Rattle.vk_ast.specs.declared.names.NameId.{NameId}
-use Rattle.vk_rules_book.specs.Scopes.{text_of, types_of, file_meaning}
+use Rattle.vk_rules_book.specs.Scopes.{text_of, types_of}
 use Rattle.vk_rules_book.specs.Rules.{Subject}
-use Rattle.vk_meaning.specs.Types.{is_pointer_type, is_written_type, type_at, next_type, next_types}
+use Rattle.vk_meaning.specs.Types.{is_written_type, type_at}
 use Rattle.vk_meaning.specs.World.{Array, array_at, Memory, with_cell, Event, World, with_event, in_memory}
-use Rattle.vk_meaning.specs.Data.{Datum, number, pointer, nothing, Value, got, halts, array_of, named_element}
+use Rattle.vk_meaning.specs.Data.{Datum, number, pointer, nothing, Value, array_of, named_element}
 use Rattle.vk_meaning.specs.Programs.{Definition, definition_of, arrays_of, array_number}
 use Rattle.vk_meaning.specs.Meaning.{means, memory_of}
-use Rattle.vk_meaning.specs.Lanes.{Words, datum_of, data_from, arguments_of, argument, AreTyped, IsPointed, AreApart, NamesCell, ReadsArray}
-use Rattle.vk_meaning_laws.specs.Tame.{is_const_object, IsLaneFunction, IsTameProgram, ConstsAreFixed}
-use Rattle.vk_meaning_laws.specs.Reach.{AgreeOn, AreAlikeOn, EndAlikeOn, CoversReach, IsIn, IsUndisturbed}
+use Rattle.vk_meaning.specs.Lanes.{Words, arguments_of, argument, AreTyped, IsPointed, AreApart, NamesCell, ReadsArray}
+use Rattle.vk_meaning_laws.specs.Tame.{IsLaneFunction, IsTameProgram, ConstsAreFixed}
+use Rattle.vk_meaning_laws.specs.Reach.{AgreeOn, AreAlikeOn, EndAlikeOn, CoversReach, IsUndisturbed}
 use Rattle.vk_meaning_laws.proofs.Sights.{Sight, AlikeValues, both_got, both_halt, IsReadable, IsKnown, IsFine}
 use Rattle.vk_meaning_laws.proofs.Expressions.{AreFine}
 use Rattle.vk_meaning_laws.proofs.Calls.{SeesConsts, AreFineFor, tame_call}

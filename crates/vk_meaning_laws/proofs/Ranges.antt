@@ -25,7 +25,7 @@ use Rattle.vk_rules_book.specs.declared.contexts.Binding.{Binding}
 use Rattle.vk_rules_book.specs.declared.typings.Typing.{Typing}
 use Rattle.vk_rules_book.specs.declared.typings.Typing.TheVariants.{Number, Variable as AVariable, Cell, Pointer, Nothing, Function, Untyped}
 use Rattle.vk_rules_book.specs.Scopes.{Scope, Meaning, a_variable, an_object, a_function, same_name, inner_or, last_binding, meaning_of}
-use Rattle.vk_rules_book.specs.Typings.{number_type, then_number as typed_number, with_number, with_pointer, with_address, is_pointer, moves_left, moves_right, binary_typing, unary_typing, choice_typing, cast_typing, element_typing, pointed_typing, name_typing, wanted_types, are_arguments, is_callable, called_typing, result_typing, call_typing, typing_of, typings_of}
+use Rattle.vk_rules_book.specs.Typings.{number_type, then_number as typed_number, with_number, with_address, moves_left, moves_right, binary_typing, choice_typing, element_typing, pointed_typing, name_typing, wanted_types, are_arguments, is_callable, called_typing, typing_of, typings_of}
 use Rattle.vk_meaning.specs.Types.{next_types}
 use Rattle.vk_meaning.specs.World.{Array, array_at, World}
 use Rattle.vk_meaning.specs.Data.{Datum, number, pointer, nothing, number_in, Value, got, halts, with_value, Action, given, and_then, then_number, fits_offset, pointer_at, moved, named_element, array_of, at_element, loaded}
@@ -315,14 +315,14 @@ module _ (c : Context) (scope : Scope) (vs : Variables) (calls : CallsAreRanged 
   gives_value (deref l k operand) = gives_pointed c.arrays (value_of c scope vs operand) (typing_of scope operand)
   gives_value (addr l k operand) = gives_untyped (with_address (typing_of scope operand)) (address_untyped (typing_of scope operand)) (address_of c scope vs operand)
   gives_value (unary l k op operand) =
-        one_number (unary_type op) (number_type (typing_of scope operand)) (gives_last (value_of c scope vs operand)
-        (λ d. gives_answered (unary_type op (integer_type (typing_of scope operand))) (unary_number op (integer_type (typing_of scope operand)) (number_in d)) (λ r. unary_ranged op (integer_type (typing_of scope operand)) (number_in d) r)))
+      one_number (unary_type op) (number_type (typing_of scope operand)) (gives_last (value_of c scope vs operand)
+      (λ d. gives_answered (unary_type op (integer_type (typing_of scope operand))) (unary_number op (integer_type (typing_of scope operand)) (number_in d)) (λ r. unary_ranged op (integer_type (typing_of scope operand)) (number_in d) r)))
   gives_value (binary l k op left right) = gives_operator op (typing_of scope left) (typing_of scope right) (value_of c scope vs left) (value_of c scope vs right)
   gives_value (choice l k condition first second) = gives_choice (typing_of scope condition) (typing_of scope first) (typing_of scope second) (gives_converted _ _)
   gives_value (cast l k t operand) = one_number (λ s. t) (number_type (typing_of scope operand)) (gives_converted t (value_of c scope vs operand))
   gives_value (call l k id arguments) =
-        gives_weaken (gives_arguments c scope vs (wanted_types (meaning_of scope id)) arguments [] (c.call id) (gives_call c scope calls id))
-        (λ d p. called_ranged (are_arguments (wanted_types (meaning_of scope id)) (typings_of scope arguments) && is_callable (meaning_of scope id) (length (typings_of scope arguments))) (meaning_of scope id) d p)
+      gives_weaken (gives_arguments c scope vs (wanted_types (meaning_of scope id)) arguments [] (c.call id) (gives_call c scope calls id))
+      (λ d p. called_ranged (are_arguments (wanted_types (meaning_of scope id)) (typings_of scope arguments) && is_callable (meaning_of scope id) (length (typings_of scope arguments))) (meaning_of scope id) d p)
 
 -- the number that an expression gives is one of its type
 pub in_range : (c : Context) (scope : Scope) (vs : Variables) → CallsAreRanged c scope → AreRanged scope vs → (e : Tree) (t : Ty) → number_type (typing_of scope e) ≡ Some t →

@@ -1,7 +1,7 @@
 -- Two runs of one function, side by side, in worlds that are related. What a run may read and what it may write is a set of elements;
 -- the relation lets both runs read the same there, and is kept by the same store in both.
 use Rattle.std.proofs.lemmas.Int.{ints}
-use Rattle.std.proofs.Common.{arith, sym, ◌≡◌, ℕ, Bool, true, false, cond, List, Option, Some, None, ℤ, pos, ◌+ℤ◌, neg_ℤ, Result, Ok, Err, refl, subst}
+use Rattle.std.proofs.Common.{arith, sym, ◌≡◌, ℕ, Bool, true, false, cond, List, Option, Some, None, ℤ, pos, ◌+ℤ◌, Result, Ok, Err, refl, subst}
 use Rattle.vk_types.specs.declared.types.Ty.{Ty}
 use Rattle.vk_types.specs.declared.types.Stop.{Stop}
 use Rattle.vk_types.specs.declared.types.Stop.TheVariants.{Bounds}

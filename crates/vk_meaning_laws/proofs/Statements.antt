@@ -1,5 +1,5 @@
 -- A statement ends alike in two related worlds, where it is tame or everything may be written.
-use Rattle.std.proofs.Common.{◌≡◌, ℕ, Bool, true, false, List, [], length, Option, Some, None, ℤ, pos, refl, sym, ap}
+use Rattle.std.proofs.Common.{◌≡◌, ℕ, Bool, true, false, List, length, Option, Some, None, pos, refl}
 use Rattle.vk_types.specs.declared.types.Ty.{Ty}
 use Rattle.vk_types.specs.Numbers.{wrap_number}
 use Rattle.vk_kinds.specs.declared.heads.CType.{CType}
@@ -14,18 +14,17 @@ use Rattle.vk_numbers.specs.Operators.{binary_number}
 use Rattle.vk_rules_book.specs.Scopes.{Scope, Meaning, with_binding}
 use Rattle.vk_rules_book.specs.Typings.{typing_of}
 use Rattle.vk_rules_book.specs.Visits.{block_scope}
-use Rattle.vk_meaning.specs.World.{World}
-use Rattle.vk_meaning.specs.Data.{Datum, number, nothing, number_in, got, Action, as_type, loaded}
+use Rattle.vk_meaning.specs.Data.{Datum, number, nothing, number_in, got, Action, as_type}
 use Rattle.vk_meaning.specs.Points.{Variable, variable_named, Point, past, branch_point, head_point, block_point, behind, loops_in}
 use Rattle.vk_meaning.specs.Expressions.{Context, Variables, with_datum, integer_type, value_of, address_of}
 use Rattle.vk_meaning.specs.Types.{is_written_type}
-use Rattle.vk_meaning.specs.Statements.{fell, Effect, Evaluation, then_do, combined, assigned, assigned_by, assignment_to, variable_of, condition_of, initialised, declared, return_of, told, told_by, run, run_simd, run_all}
+use Rattle.vk_meaning.specs.Statements.{then_do, combined, assigned, assigned_by, assignment_to, variable_of, condition_of, initialised, declared, return_of, told, told_by, run, run_simd, run_all}
 use Rattle.vk_meaning_laws.specs.Ranges.{IsNumberOf}
 use Rattle.vk_meaning_laws.specs.Tame.{IsTame, IsTameOptional, IsWrittenElement, IsTameTarget, IsTameStmt, AreTameStmts}
-use Rattle.vk_meaning_laws.proofs.Sights.{Sight, TakesWords, AlikeValues, both_got, both_halt, Keeps, IsReadable, IsOwned, keeps_then, keeps_number, keeps_weaken, keeps_given, keeps_own, keeps_read, keeps_stored, keeps_answered}
-use Rattle.vk_meaning_laws.proofs.Expressions.{Allowed, free, tame, allow, Free, free_readable, free_known, readable_as, HaveFine, Sees, Stands, zero_in_range, keeps_both, keeps_value, keeps_address, keeps_written, keeps_first}
+use Rattle.vk_meaning_laws.proofs.Sights.{Sight, TakesWords, both_got, Keeps, IsReadable, IsOwned, keeps_then, keeps_number, keeps_weaken, keeps_given, keeps_own, keeps_stored, keeps_answered}
+use Rattle.vk_meaning_laws.proofs.Expressions.{Allowed, free, tame, allow, Free, free_known, readable_as, Sees, Stands, zero_in_range, keeps_both, keeps_value, keeps_address, keeps_written, keeps_first}
 use Rattle.vk_meaning_laws.proofs.Variables.{InScope, in_binding, in_inside, in_after, AllFine, fine_in, fine_assigned, fine_declared}
-use Rattle.vk_meaning_laws.proofs.Effects.{IsReturned, AlikeOutcomes, both_fell, both_returned, Goes, Evaluates, on_alike, goes_fell, goes_broke, goes_continued, goes_then, goes_branch, goes_turns, goes_repeat, goes_looped, goes_evaluate, goes_assign}
+use Rattle.vk_meaning_laws.proofs.Effects.{IsReturned, both_fell, both_returned, Goes, Evaluates, on_alike, goes_fell, goes_broke, goes_continued, goes_then, goes_branch, goes_turns, goes_repeat, goes_looped, goes_evaluate, goes_assign}
 
 -- ---- assignments to elements
 

@@ -1,8 +1,8 @@
 -- Variables of a function: what is known of them goes by the function's parameters alone.
-use Rattle.std.proofs.Common.{◌≡◌, ◌≢◌, ◌≤◌, ◌<◌, ◌⊎◌, ◌&&◌, ◌==◌, ℕ, zero, suc, ◌+◌, Bool, true, false, cond, List, [], ◌∷◌, ◌++◌, length, map, get_or, Option, Some, None, is_some, refl, subst, sym, ap, arith, rules, ◌∙◌, append_assoc, append-nil, inl, inr}
+use Rattle.std.proofs.Common.{◌≡◌, ◌≤◌, ◌<◌, ◌&&◌, ◌==◌, ℕ, zero, suc, ◌+◌, Bool, true, false, cond, List, [], ◌∷◌, ◌++◌, length, map, get_or, Option, Some, None, is_some, refl, subst, sym, ap, arith, rules, ◌∙◌, append_assoc, append-nil}
 use Rattle.std.specs.Option.{option_or}
 use Rattle.vk_kinds.specs.declared.heads.CType.{CType}
-use Rattle.vk_kinds.specs.declared.heads.CType.TheVariants.{Void, Int, Ptr}
+use Rattle.vk_kinds.specs.declared.heads.CType.TheVariants.{Void, Int}
 use Rattle.vk_types.specs.declared.types.Ty.{Ty}
 use Rattle.vk_ast.specs.declared.names.NameId.{NameId}
 use Rattle.vk_ast.specs.declared.items.ParamDecl.{ParamDecl}
@@ -11,13 +11,13 @@ use Rattle.vk_rules_book.specs.declared.contexts.Binding.{Binding}
 use Rattle.vk_rules_book.specs.Scopes.{Scope, Meaning, same_name, types_of, with_binding, with_param, with_params, inside}
 use Rattle.vk_rules_book.specs.Visits.{after, after_all}
 use Rattle.vk_meaning.specs.World.{Array}
-use Rattle.vk_meaning.specs.Data.{Datum, number, nothing, as_type}
+use Rattle.vk_meaning.specs.Data.{Datum, nothing}
 use Rattle.vk_meaning.specs.Points.{Variable, variable_among, variable_named}
 use Rattle.vk_meaning.specs.Expressions.{Variables, with_datum}
-use Rattle.vk_meaning.specs.Types.{is_written_type, next_type, next_types}
+use Rattle.vk_meaning.specs.Types.{is_written_type}
 use Rattle.vk_meaning.specs.Meaning.{first_variables}
 use Rattle.vk_meaning_laws.specs.Tame.{are_named}
-use Rattle.vk_meaning_laws.proofs.Sights.{Sight, IsReadable, IsOwned, IsKnown, IsFine}
+use Rattle.vk_meaning_laws.proofs.Sights.{Sight, IsReadable, IsKnown, IsFine}
 use Rattle.vk_meaning_laws.proofs.Expressions.{HaveFine, AreFine}
 
 abbrev pub type_number : List CType → ℕ → CType

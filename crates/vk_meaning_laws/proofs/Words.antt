@@ -1,15 +1,22 @@
 -- A run leaves words of the arrays' types in all elements, and a program begins with such words.
-use Rattle.std.proofs.Common.{◌≡◌, ◌<◌, ℕ, ◌==◌, zero, suc, Bool, true, false, cond, ◌&&◌, List, [], ◌∷◌, ◌++◌, map, flat_map, filter_map, length, get_or, Option, Some, None, ℤ, refl, subst, sym, ap, arith, rules}
+use Rattle.std.proofs.Common.{◌≡◌, ℕ, ◌==◌, zero, suc, Bool, true, false, cond, ◌&&◌, List, [], ◌∷◌, ◌++◌, map, flat_map, filter_map, get_or, Some, None, unwrap_or, pos, refl, subst, sym, ap, arith, rules}
+use Rattle.vk_types.specs.declared.types.Ty.{Ty}
+use Rattle.vk_types.specs.declared.types.Ty.TheVariants.{U8}
 use Rattle.vk_types.specs.Numbers.{IsCanonical, wrap_number, word_of}
-use Rattle.vk_kinds.specs.declared.heads.CType.{CType}
+use Rattle.std.specs.List.{cons_option}
+use Rattle.std.specs.Ordering.{is_le, nat_cmp}
+use Rattle.std.specs.Cmp.Lexicographic.{slice_cmp}
+use Rattle.vk_ast.specs.Tree.{Tree}
+use Rattle.vk_ast.specs.Units.{ItemTree, function, object, lost_line}
 use Rattle.vk_numbers.proofs.Numbers.{wrap_in_range, canonical_word}
 use Rattle.vk_rules_book.specs.Rules.{Subject}
-use Rattle.vk_meaning.specs.World.{Array, array_at, Memory, with_cell, World, in_memory, with_event}
+use Rattle.vk_meaning.specs.World.{Array, array_at, no_array, first_memory, Memory, with_cell, World, in_memory, with_event}
 use Rattle.vk_meaning.specs.Data.{Datum, Value, got, halts}
-use Rattle.vk_meaning.specs.Programs.{Definition, definition_of, arrays_of}
+use Rattle.vk_meaning.specs.Programs.{Definition, definition_of, initial_number, array_of_object, array_defined, put_in, in_order, arrays_of}
 use Rattle.vk_meaning.specs.Meaning.{means, memory_of}
 use Rattle.vk_meaning_laws.specs.Ranges.{HasWords, IsNumberOf}
 use Rattle.vk_meaning_laws.proofs.Sights.{Sight, AlikeValues, both_got, both_halt, IsReadable}
+use Rattle.vk_meaning_laws.proofs.Expressions.{zero_in_range}
 use Rattle.vk_meaning_laws.proofs.Calls.{free_call, free_result}
 
 -- the same world, which has words of the arrays' types
@@ -74,3 +81,65 @@ results_ranged units turns text d e ds m x w f =
     go : (y y' : Value) → y ≡ got x w → AlikeValues plain (IsNumberOf d.function.result) y y' → IsNumberOf d.function.result x
     go y y' same (both_got z u u' p r) = subst (IsNumberOf d.function.result) (ap datum same) p
     go y y' same (both_halt s u u' r) = cc
+
+-- ---- the first memory
+
+zero_canonical : (t : Ty) → IsCanonical t 0
+zero_canonical t = canonical_word t (pos 0) (zero_in_range t)
+
+-- the first elements of an array have words of its type, and the others 0
+abbrev IsCanonicalArray : Array → Type 0
+IsCanonicalArray a = (i : ℕ) → IsCanonical a.ty (get_or a.given i 0)
+
+given_canonical : (t : Ty) (es : List Tree) (i : ℕ) → IsCanonical t (get_or (map (λ e. word_of (wrap_number t (initial_number e))) es) i 0)
+given_canonical t [] i = subst (IsCanonical t) (past i) (zero_canonical t)
+  where
+    past : (i : ℕ) → ◌≡◌ {A = ℕ} 0 (get_or [] i 0)
+    past i = search rules
+given_canonical t (e ∷ es) zero = canonical_word t _ (wrap_in_range t (initial_number e))
+given_canonical t (e ∷ es) (suc i) = given_canonical t es i
+
+abbrev AreCanonical : List Array → Type 0
+AreCanonical [] = Unit {0}
+AreCanonical (a ∷ rest) = IsCanonicalArray a × AreCanonical rest
+
+canonical_append : (xs ys : List Array) → AreCanonical xs → AreCanonical ys → AreCanonical (xs ++ ys)
+canonical_append [] ys h k = k
+canonical_append (x ∷ xs) ys h k = (h.0, canonical_append xs ys h.1 k)
+
+canonical_put : (a : Array) (xs : List Array) → IsCanonicalArray a → AreCanonical xs → AreCanonical (put_in a xs)
+canonical_put a [] h k = (h, tt)
+canonical_put a (b ∷ bs) h k = go (is_le (slice_cmp nat_cmp a.text b.text)) (canonical_put a bs h k.1)
+  where
+    go : (c : Bool) → AreCanonical (put_in a bs) → AreCanonical (cond c (a ∷ b ∷ bs) (b ∷ put_in a bs))
+    go true n = (h, k)
+    go false n = (k.0, n)
+
+canonical_order : (xs : List Array) → AreCanonical xs → AreCanonical (in_order xs)
+canonical_order [] h = tt
+canonical_order (x ∷ xs) h = canonical_put x (in_order xs) h.0 (canonical_order xs h.1)
+
+canonical_items : (u : Subject) (items : List ItemTree) → AreCanonical (filter_map (array_defined u) items)
+canonical_items u [] = tt
+canonical_items u (function f ∷ is) = canonical_items u is
+canonical_items u (lost_line d ∷ is) = canonical_items u is
+canonical_items u (object o ∷ is) = go o.outside (canonical_items u is)
+  where
+    go : (b : Bool) → AreCanonical (filter_map (array_defined u) is) → AreCanonical (cons_option (cond b None (Some (array_of_object u o))) (filter_map (array_defined u) is))
+    go true rest = rest
+    go false rest = (given_canonical o.ty (unwrap_or o.init []), rest)
+
+canonical_units : (units : List Subject) → AreCanonical (flat_map (λ u. filter_map (array_defined u) u.items) units)
+canonical_units [] = tt
+canonical_units (u ∷ us) = canonical_append (filter_map (array_defined u) u.items) _ (canonical_items u u.items) (canonical_units us)
+
+canonical_at : (xs : List Array) → AreCanonical xs → (a : ℕ) → IsCanonicalArray (array_at xs a)
+canonical_at [] h a = subst IsCanonicalArray (past a) (λ i. given_canonical U8 [] i)
+  where
+    past : (a : ℕ) → no_array ≡ array_at [] a
+    past a = search rules
+canonical_at (x ∷ xs) h zero = h.0
+canonical_at (x ∷ xs) h (suc a) = canonical_at xs h.1 a
+
+pub first_words : (units : List Subject) → HasWords (arrays_of units) (first_memory (arrays_of units))
+first_words units a i below = canonical_at (arrays_of units) (canonical_order _ (canonical_units units)) a i

@@ -1,15 +1,15 @@
 -- Numbers that are in the range of their types, in values, variables and memory.
-use Rattle.std.specs.Prelude.{◌≡◌, ◌<◌, ℕ, List, Option, Some, None}
+use Rattle.std.specs.Prelude.{◌≡◌, ◌<◌, ℕ, List, Option, Some}
 use Rattle.vk_types.specs.declared.types.Ty.{Ty}
 use Rattle.vk_types.specs.Numbers.{IsInRange, IsCanonical}
 use Rattle.vk_kinds.specs.declared.heads.CType.{CType}
 use Rattle.vk_kinds.specs.declared.heads.CType.TheVariants.{Void, Int, Ptr}
 use Rattle.vk_ast.specs.declared.names.NameId.{NameId}
 use Rattle.vk_rules_book.specs.declared.typings.Typing.{Typing}
-use Rattle.vk_rules_book.specs.Scopes.{Scope, Meaning, a_variable, an_object, a_function, meaning_of}
+use Rattle.vk_rules_book.specs.Scopes.{Scope, Meaning, a_function, meaning_of}
 use Rattle.vk_rules_book.specs.Typings.{number_type}
 use Rattle.vk_meaning.specs.World.{Array, array_at, Memory, World}
-use Rattle.vk_meaning.specs.Data.{Datum, number_in, got, Value, Action}
+use Rattle.vk_meaning.specs.Data.{Datum, number_in, got}
 use Rattle.vk_meaning.specs.Points.{Variable, variable_named}
 use Rattle.vk_meaning.specs.Expressions.{Context, Variables}
 

@@ -8,7 +8,7 @@ use Rattle.vk_ast.specs.declared.names.NameId.{NameId}
 use Rattle.vk_ast.specs.declared.items.ParamDecl.{ParamDecl}
 use Rattle.vk_ast.specs.Tree.{Tree, Trees, int, name, index, deref, addr, unary, binary, choice, cast, call, no_trees, more_trees}
 use Rattle.vk_ast.specs.Statements.{StmtTree, StmtTrees, block, local, assign, value, if_only, if_else, while_loop, do_loop, for_loop, return_value, simd, no_stmts, more_stmts}
-use Rattle.vk_rules_book.specs.Scopes.{Scope, Meaning, a_variable, an_object, a_function, text_of, is_print, file_meaning, types_of, meaning_of, with_binding}
+use Rattle.vk_rules_book.specs.Scopes.{Scope, Meaning, an_object, a_function, text_of, file_meaning, types_of, meaning_of, with_binding}
 use Rattle.vk_rules_book.specs.Typings.{wanted_types}
 use Rattle.vk_rules_book.specs.Rules.{Subject}
 use Rattle.vk_meaning.specs.World.{array_at}

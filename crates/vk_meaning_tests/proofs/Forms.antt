@@ -1,5 +1,5 @@
 -- Short forms for trees and for what a run tells.
-use Rattle.std.specs.Prelude.{ℕ, Bool, true, false, cond, List, [], ◌∷◌, map, filter_map, Option, Some, None, ℤ, pos, Result, Ok, Err}
+use Rattle.std.specs.Prelude.{ℕ, Bool, false, cond, List, [], ◌∷◌, filter_map, Option, Some, None, ℤ, Result, Ok, Err}
 use Rattle.vk_types.specs.declared.types.Ty.{Ty}
 use Rattle.vk_types.specs.declared.types.Stop.{Stop}
 use Rattle.vk_kinds.specs.declared.heads.CType.{CType}
@@ -18,7 +18,7 @@ use Rattle.vk_ast.specs.Units.{ItemTree}
 use Rattle.vk_rules_book.specs.Rules.{Subject}
 use Rattle.vk_meaning.specs.World.{Memory, Event, printed, simd_loop}
 use Rattle.vk_meaning.specs.Data.{Datum, Value, got, halts}
-use Rattle.vk_meaning.specs.Meaning.{printed_numbers, world_of, means, reading}
+use Rattle.vk_meaning.specs.Meaning.{printed_numbers, world_of}
 
 abbrev pub id : ℕ → NameId
 id n = record { 0 = n }

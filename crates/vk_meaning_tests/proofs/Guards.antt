@@ -1,22 +1,19 @@
 -- The guard of a simd loop: which pairs of bases are compared, and how many may be.
-use Rattle.std.specs.Prelude.{◌≡◌, ℕ, true, false, List, [], ◌∷◌, map, codes, Option, Some, None, ℤ, pos, negsuc, Result, Ok, Err}
+use Rattle.std.specs.Prelude.{◌≡◌, true, false, [], ◌∷◌, codes, Some, None, pos}
 use Rattle.std.proofs.Common.{refl}
 use Rattle.std.specs.Int.{int_wrap}
-use Rattle.vk_types.specs.declared.types.Ty.TheVariants.{I8, I16, I32, I64, U8, U16, U32, U64}
-use Rattle.vk_types.specs.declared.types.Stop.{Stop}
-use Rattle.vk_types.specs.declared.types.Stop.TheVariants.{Divide, Bounds, Turns}
+use Rattle.vk_types.specs.declared.types.Ty.TheVariants.{I32}
 use Rattle.vk_types.specs.Operators.{from_bits}
 use Rattle.vk_kinds.specs.declared.heads.CType.TheVariants.{Void, Int, Ptr}
-use Rattle.vk_ast.specs.declared.expressions.UnOp.TheVariants as u
 use Rattle.vk_ast.specs.declared.expressions.BinOp.TheVariants as b
 use Rattle.vk_numbers.specs.Constants.{constant_of}
 use Rattle.vk_rules_book.specs.Rules.{Subject}
 use Rattle.vk_rules_book.specs.Scopes.{first_declaration, last_binding, meaning_of, with_params}
 use Rattle.vk_rules_book.specs.Typings.{are_arguments, choice_typing}
 use Rattle.vk_rules_book.specs.Items.{length_of}
-use Rattle.vk_meaning.specs.Data.{Datum, number, pointer, nothing}
-use Rattle.vk_meaning.specs.Meaning.{means, reading}
-use Rattle.vk_meaning_tests.proofs.Forms.{id, lit, var, index, deref, addr, one, two, choice, cast, call, empty, block, local, assign, value, if_only, if_else, while_loop, do_loop, for_loop, break_loop, continue_loop, return_value, simd, param, function_of, object_of, unit_of, end_of, told, tells, loop, zeros}
+use Rattle.vk_meaning.specs.Data.{number, pointer}
+use Rattle.vk_meaning.specs.Meaning.{means}
+use Rattle.vk_meaning_tests.proofs.Forms.{id, lit, var, index, deref, two, call, block, local, assign, value, for_loop, simd, param, function_of, object_of, unit_of, told, tells, loop, zeros}
 
 -- int s[1]; const int c0[1] = {0}; const int c1[1] = {0}; const int c2[1] = {0}; const int c3[1] = {0}; const int c4[1] = {0}; const int c5[1] = {0}; const int c6[1] = {0}; const int c7[1] = {0}; const int c8[1] = {0}; const int c9[1] = {0}; const int c10[1] = {0}; const int c11[1] = {0}; const int c12[1] = {0}; const int c13[1] = {0}; const int c14[1] = {0}; const int c15[1] = {0};
 -- void f(int *p0, int *p1, int *p2, int *p3, int *p4, int *p5, int *p6, int *p7, int *p8, int *p9, int *p10, int *p11, int *p12, int *p13, int *p14, int *p15, int *p16, int *p17, int *p18, int *p19, int *p20, int *p21, int *p22, int *p23, int *p24, int *p25, int *p26, int *p27, int *p28, int *p29, int *p30, const int *q0, int n) {

@@ -1,22 +1,19 @@
 -- The order of evaluation, scopes, and stops in every place.
-use Rattle.std.specs.Prelude.{◌≡◌, ℕ, true, false, List, [], ◌∷◌, map, codes, Option, Some, None, ℤ, pos, negsuc, Result, Ok, Err}
+use Rattle.std.specs.Prelude.{◌≡◌, false, [], ◌∷◌, codes, Some, None, pos, negsuc}
 use Rattle.std.proofs.Common.{refl}
 use Rattle.std.specs.Int.{int_wrap}
-use Rattle.vk_types.specs.declared.types.Ty.TheVariants.{I8, I16, I32, I64, U8, U16, U32, U64}
-use Rattle.vk_types.specs.declared.types.Stop.{Stop}
+use Rattle.vk_types.specs.declared.types.Ty.TheVariants.{I32}
 use Rattle.vk_types.specs.declared.types.Stop.TheVariants.{Divide, Bounds, Turns}
 use Rattle.vk_types.specs.Operators.{from_bits}
-use Rattle.vk_kinds.specs.declared.heads.CType.TheVariants.{Void, Int, Ptr}
-use Rattle.vk_ast.specs.declared.expressions.UnOp.TheVariants as u
+use Rattle.vk_kinds.specs.declared.heads.CType.TheVariants.{Int}
 use Rattle.vk_ast.specs.declared.expressions.BinOp.TheVariants as b
 use Rattle.vk_numbers.specs.Constants.{constant_of}
 use Rattle.vk_rules_book.specs.Rules.{Subject}
 use Rattle.vk_rules_book.specs.Scopes.{first_declaration, last_binding, meaning_of, with_params}
 use Rattle.vk_rules_book.specs.Typings.{are_arguments, choice_typing}
 use Rattle.vk_rules_book.specs.Items.{length_of}
-use Rattle.vk_meaning.specs.Data.{Datum, number, pointer, nothing}
-use Rattle.vk_meaning.specs.Meaning.{means, reading}
-use Rattle.vk_meaning_tests.proofs.Forms.{id, lit, var, index, deref, addr, one, two, choice, cast, call, empty, block, local, assign, value, if_only, if_else, while_loop, do_loop, for_loop, break_loop, continue_loop, return_value, simd, param, function_of, object_of, unit_of, end_of, told, tells, loop, zeros}
+use Rattle.vk_meaning.specs.Meaning.{reading}
+use Rattle.vk_meaning_tests.proofs.Forms.{id, lit, var, index, deref, two, choice, call, block, local, assign, value, if_only, if_else, while_loop, do_loop, for_loop, return_value, param, function_of, object_of, unit_of, told, tells}
 
 -- int t(int a) { print(a); return a; }
 -- int a[4];
