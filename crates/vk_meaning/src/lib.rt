@@ -5,3 +5,7 @@
 //! (`Programs.antt`), calls and the reading of a program (`Meaning.antt`), and what a call on several lanes has to meet and gives
 //! (`Lanes.antt`, `LaneWise.antt`). No masks, lane code or images are in it.
 #![tactic(auto)]
+
+pub mod reading;
+
+pub use reading::{Reading, RunFail};

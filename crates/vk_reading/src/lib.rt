@@ -1,0 +1,8 @@
+//! The scalar reading of a program: its units are read as they mean, one function, statement and expression after another.
+//!
+//! `specs/` says how what the reader holds stands for what the meaning (`vk_meaning`) speaks of.
+#![tactic(auto)]
+
+pub mod held;
+
+pub use held::{Held, Typed};
