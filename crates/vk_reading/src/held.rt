@@ -1,17 +1,13 @@
 // Values as the reader holds them.
 
-ghost use Rattle.std.specs.Prelude.{◌≡◌, IfOk};
+ghost use Rattle.std.specs.Prelude.{◌≡◌};
 ghost use Rattle.vk_types.specs.Numbers.{IsCanonical, number_of};
-ghost use Rattle.vk_types.specs.Operators.{HasNumber};
-ghost use Rattle.vk_numbers.specs.Operators.{binary_number, is_on, unary_number};
-ghost use Rattle.vk_numbers.specs.Types.{binary_type, unary_type};
+ghost use Rattle.vk_numbers.specs.Operators.{is_on};
 ghost use Rattle.vk_meaning.specs.Data.{as_type, number_in, pointer_in};
 ghost use Rattle.vk_reading.specs.Held.{IsHeld, datum_of};
 
-use vk_ast::{BinOp, UnOp};
 use vk_kinds::CType;
-use vk_numbers::{binary_type, unary_type};
-use vk_types::{Op1, Op2, Stop, Ty, Word, common, convert, op1, op2, promote, wrap};
+use vk_types::{Ty, Word, convert, wrap};
 
 /// The value of an expression: a word of an integer type, a pointer to elements of a type, or nothing where the type is void.
 #[derive(Clone, Copy, PartialEq, Eq, Debug)]
