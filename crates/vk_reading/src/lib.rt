@@ -3,7 +3,11 @@
 //! `specs/` says how what the reader holds stands for what the meaning (`vk_meaning`) speaks of.
 #![tactic(auto)]
 
+pub mod cells;
 pub mod held;
 pub mod operators;
+pub mod pointers;
 
+pub use cells::{Cells, Row};
 pub use held::{Held, Typed};
+pub use pointers::Place;

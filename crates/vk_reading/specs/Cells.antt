@@ -1,0 +1,31 @@
+-- The reader's cells, and the memory that they stand for.
+use Rattle.std.specs.Prelude.{◌≡◌, ℕ, List, length, Option, Some, None, slice_get}
+use Rattle.vk_types.specs.declared.types.Word.{Word}
+use Rattle.vk_types.specs.Numbers.{IsCanonical}
+use Rattle.vk_meaning.specs.World.{Array, array_at, Memory}
+use Rattle.vk_reading.specs.declared.cells.Row.{Row}
+
+abbrev pub word_in : Option Word → ℕ
+word_in None = 0
+word_in (Some w) = w.0
+
+abbrev pub cell_in : Option Row → ℕ → ℕ
+cell_in None i = 0
+cell_in (Some r) i = word_in (slice_get r.words.items i)
+
+-- the memory of some rows; cells that are not there are 0
+abbrev pub memory_in : List Row → Memory
+memory_in rows a i = cell_in (slice_get rows a) i
+
+-- a row has an array's type and length
+abbrev pub IsRowOf : Option Row → Array → Type 0
+IsRowOf None x = x.length ≡ 0
+IsRowOf (Some r) x = (r.ty ≡ x.ty) × (length r.words.items ≡ x.length)
+
+-- one row for each array, in their order
+abbrev pub AreRowsOf : List Row → List Array → Type 0
+AreRowsOf rows arrays = (a : ℕ) → IsRowOf (slice_get rows a) (array_at arrays a)
+
+-- the cells have words of the rows' types
+abbrev pub HaveWords : List Row → Type 0
+HaveWords rows = (a i : ℕ) (r : Row) (w : Word) → slice_get rows a ≡ Some r → slice_get r.words.items i ≡ Some w → IsCanonical r.ty w.0
