@@ -1,5 +1,5 @@
 -- The reader's cells, and the memory that they stand for.
-use Rattle.std.specs.Prelude.{◌≡◌, ℕ, List, length, Option, Some, None, slice_get}
+use Rattle.std.specs.Prelude.{◌≡◌, ℕ, ℤ, pos, negsuc, List, length, Option, Some, None, slice_get}
 use Rattle.vk_types.specs.declared.types.Word.{Word}
 use Rattle.vk_types.specs.Numbers.{IsCanonical}
 use Rattle.vk_meaning.specs.World.{Array, array_at, Memory}
@@ -29,3 +29,8 @@ AreRowsOf rows arrays = (a : ℕ) → IsRowOf (slice_get rows a) (array_at array
 -- the cells have words of the rows' types
 abbrev pub HaveWords : List Row → Type 0
 HaveWords rows = (a i : ℕ) (r : Row) (w : Word) → slice_get rows a ≡ Some r → slice_get r.words.items i ≡ Some w → IsCanonical r.ty w.0
+
+-- the word at an offset, where there is one
+abbrev pub word_at : List Word → (offset : ℤ) → Option Word
+word_at words (pos n) = slice_get words n
+word_at words (negsuc n) = None

@@ -32,7 +32,10 @@ pub fn number_in(held: Held) -> Typed
 {
     match held {
         Held::Number { ty, word } => Typed { ty, word },
-        Held::Pointer { .. } | Held::Nothing => Typed { ty: Ty::I32, word: wrap(Ty::I32, 0) },
+        Held::Pointer { .. } | Held::Nothing => Typed {
+            ty: Ty::I32,
+            word: wrap(Ty::I32, 0),
+        },
     }
 }
 
@@ -46,7 +49,10 @@ pub fn as_type(held: Held, to: CType) -> Held
         CType::Void => Held::Nothing,
         CType::Int(ty) => {
             let n = number_in(held);
-            Held::Number { ty, word: convert(n.ty, ty, n.word) }
+            Held::Number {
+                ty,
+                word: convert(n.ty, ty, n.word),
+            }
         }
         CType::Ptr { .. } => pointer_in(held),
     }

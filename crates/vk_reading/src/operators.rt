@@ -8,10 +8,9 @@ ghost use Rattle.vk_ast.specs.declared.expressions.UnOp.TheVariants.{LogNot};
 ghost use Rattle.vk_numbers.specs.Operators.{binary_number, is_on, result_in, shift_result, unary_number};
 ghost use Rattle.vk_numbers.specs.Types.{binary_type, unary_type};
 
+use crate::held::{Typed, is_on};
 use vk_ast::{BinOp, UnOp};
 use vk_types::{Op1, Op2, Stop, Ty, Word, common, convert, op1, op2, promote, wrap};
-
-use crate::held::{Typed, is_on};
 
 // Both operands are converted to the type first (C17 6.3.1.8).
 fn in_type(op: Op2, t: Ty, x: Typed, y: Typed) -> Result<Word, Stop>
@@ -40,7 +39,13 @@ fn logical_not(x: Typed) -> Result<Word, Stop>
     ensures canonical { IfOk result (λ w. IsCanonical I32 w.0) }
 {
     let t = promote(x.ty);
-    op2(Op2::Eq, t, convert(x.ty, t, x.word), convert(Ty::I32, t, wrap(Ty::I32, 0)), t)
+    op2(
+        Op2::Eq,
+        t,
+        convert(x.ty, t, x.word),
+        convert(Ty::I32, t, wrap(Ty::I32, 0)),
+        t,
+    )
 }
 
 /// The word of `op x`, one of the type `unary_type op x.ty` (C17 6.5.3.3).

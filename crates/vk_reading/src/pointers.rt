@@ -7,9 +7,8 @@ ghost use Rattle.vk_meaning.specs.World.{World};
 ghost use Rattle.vk_meaning.specs.Data.{fits_offset, moved, pointer, pointer_at};
 ghost use Rattle.vk_reading.specs.Held.{IsHeld, value_in};
 
-use vk_types::{Stop, Ty, number};
-
 use crate::held::{Held, Typed};
+use vk_types::{Stop, Ty, number};
 
 /// A pointer into an array: its number and an offset in elements, which may be outside the array.
 #[derive(Clone, Copy, PartialEq, Eq, Debug)]
