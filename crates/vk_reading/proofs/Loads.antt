@@ -1,11 +1,11 @@
 -- What a load and a store do with the rows of some arrays.
-use Rattle.std.proofs.Common.{◌≡◌, ◌<◌, ◌≤◌, ℕ, zero, suc, nat_lt, Bool, true, false, cond, List, [], ◌∷◌, length, Option, Some, None, slice_get, ℤ, pos, negsuc, refl, subst, sym, ap, arith, rules, ◌∙◌}
+use Rattle.std.proofs.Common.{◌≡◌, ℕ, zero, suc, nat_lt, Bool, true, false, cond, List, [], ◌∷◌, length, Option, Some, None, slice_get, ℤ, pos, negsuc, refl, subst, sym, ap, arith, rules, ◌∙◌}
 use Rattle.vk_types.specs.declared.types.Ty.{Ty}
 use Rattle.vk_types.specs.declared.types.Word.{Word}
 use Rattle.vk_types.specs.declared.types.Stop.TheVariants.{Bounds}
 use Rattle.vk_types.specs.Numbers.{number_of, wrap_number}
 use Rattle.vk_meaning.specs.World.{Array, array_at, Event, World}
-use Rattle.vk_meaning.specs.Data.{number, pointer, got, halts, element_at, at_element, loaded}
+use Rattle.vk_meaning.specs.Data.{number, pointer, got, halts, at_element, loaded}
 use Rattle.vk_reading.specs.declared.cells.Row.{Row}
 use Rattle.vk_reading.specs.Cells.{word_in, cell_in, memory_in, IsRowOf, AreRowsOf, word_at}
 

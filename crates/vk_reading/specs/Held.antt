@@ -1,6 +1,5 @@
 -- Values as the reader holds them: words with their types.
-use Rattle.std.specs.Prelude.{◌≡◌, ℕ, ℤ, Result, Ok, Err}
-use Rattle.vk_types.specs.declared.types.Ty.{Ty}
+use Rattle.std.specs.Prelude.{Result, Ok, Err}
 use Rattle.vk_types.specs.declared.types.Stop.{Stop}
 use Rattle.vk_types.specs.Numbers.{number_of, IsCanonical}
 use Rattle.vk_meaning.specs.World.{World}
