@@ -12,10 +12,11 @@ use Rattle.vk_meaning.specs.Expressions.{Variables}
 use Rattle.vk_meaning.specs.Statements.{Outcome}
 use Rattle.vk_meaning.specs.Programs.{arrays_of, array_number, Definition, definition_of, first_point}
 use Rattle.vk_meaning.specs.Meaning.{print_first, fallen, ended, first_variables, Calls, call_by, context_of, called, called_where_defined, call_within}
-use Rattle.vk_meaning_laws.specs.Ranges.{IsNumberOf}
+use Rattle.vk_meaning_terms.specs.Ranges.{IsNumberOf}
 use Rattle.vk_meaning_laws.specs.Tame.{is_const_object, IsLaneFunction, IsTameProgram}
 use Rattle.vk_meaning_laws.proofs.Sights.{Sight, TakesWords, AlikeValues, both_got, both_halt, Keeps, IsReadable, keeps_given, keeps_weaken}
-use Rattle.vk_meaning_laws.proofs.Expressions.{Allowed, free, tame, Free, free_known, AreFine, Sees, zero_in_range}
+use Rattle.vk_meaning_laws.proofs.Expressions.{Allowed, free, tame, Free, free_known, AreFine, Sees}
+use Rattle.vk_meaning_terms.proofs.Zero.{zero_in_range}
 use Rattle.vk_meaning_laws.proofs.Variables.{types, in_itself, in_params, AllFine, fine_first}
 use Rattle.vk_meaning_laws.proofs.Effects.{IsReturned, AlikeOutcomes, both_fell, both_broke, both_continued, both_returned, both_stopped}
 use Rattle.vk_meaning_laws.proofs.Statements.{nothing_returned, goes_run}

@@ -9,7 +9,7 @@ use Rattle.vk_meaning.specs.Data.{Datum, number_in, as_type, Value}
 use Rattle.vk_meaning.specs.Points.{Variable}
 use Rattle.vk_meaning.specs.Expressions.{Variables, with_datum}
 use Rattle.vk_meaning.specs.Statements.{State, Outcome, fell, broke, continued, returned, stopped, Effect, Evaluation, on_value, with_evaluated, on_fell, then_do, on_turn, uncontinued, branch, turns, repeat, with_third, looped, with_variable, assign_variable, evaluate}
-use Rattle.vk_meaning_laws.specs.Ranges.{IsNumberOf}
+use Rattle.vk_meaning_terms.specs.Ranges.{IsNumberOf}
 use Rattle.vk_meaning_laws.proofs.Sights.{Sight, AlikeValues, both_got, both_halt, Keeps, IsReadable}
 
 -- what is known of what a function of this result gives: it may be read, and a number is one of the type

@@ -1,8 +1,7 @@
 -- An expression ends alike in two related worlds, where it is tame or everything may be written.
-use Rattle.std.proofs.Common.{◌≡◌, ℕ, Bool, true, false, List, [], ◌∷◌, ◌++◌, Option, Some, None, ℤ, pos, neg_ℤ, refl, subst, sym, ap, rules, ◌∙◌, append_assoc, append-nil, inl, inr}
+use Rattle.std.proofs.Common.{◌≡◌, ℕ, Bool, true, false, List, [], ◌∷◌, ◌++◌, Option, Some, None, ℤ, pos, neg_ℤ, refl, subst, sym, ap, ◌∙◌, append_assoc, append-nil, inl, inr}
 use Rattle.vk_types.specs.declared.types.Ty.{Ty}
-use Rattle.vk_types.specs.declared.types.Ty.TheVariants.{I8, I16, I32, I64, U8, U16, U32, U64}
-use Rattle.vk_types.specs.Numbers.{wrap_number, IsInRange}
+use Rattle.vk_types.specs.Numbers.{wrap_number}
 use Rattle.vk_types.specs.Operators.{truth}
 use Rattle.vk_kinds.specs.declared.heads.CType.{CType}
 use Rattle.vk_kinds.specs.declared.heads.CType.TheVariants.{Void, Int, Ptr}
@@ -22,6 +21,7 @@ use Rattle.vk_meaning.specs.Points.{Variable, variable_named}
 use Rattle.vk_meaning.specs.Expressions.{Context, Variables, integer_type, pointed_type, object_value, name_value, both, truth_of, integers_value, moved_by, operator_value, converted, subscripted, value_of, address_of, with_arguments}
 use Rattle.vk_meaning.specs.Types.{is_written_type, next_type, next_types}
 use Rattle.vk_meaning_laws.specs.Tame.{is_written_variable, is_written_name, is_const_object, is_readable, is_function, IsTameName, IsZero, IsTameArgument, IsTame, IsTamePlace, AreTame}
+use Rattle.vk_meaning_terms.proofs.Zero.{zero_in_range}
 use Rattle.vk_meaning_laws.proofs.Sights.{Sight, TakesWords, Keeps, IsReadable, IsOwned, IsKnown, IsFine, keeps_then, keeps_number, keeps_weaken, keeps_given, keeps_cond, keeps_answered, keeps_moved, keeps_read, keeps_own, keeps_still}
 
 -- ---- what is allowed
@@ -171,16 +171,6 @@ module _ {v : Sight} where
   keeps_object arrays a (Some (an_object t is_array fixed)) h e =
       keeps_cond is_array (keeps_given (pointer a (pos 0)) (h e)) (keeps_read arrays t (pointer a (pos 0)) (h e))
   keeps_object arrays a (Some (a_function r ps is_simd)) h e = keeps_given nothing tt
-
-pub zero_in_range : (t : Ty) → IsInRange t (pos 0)
-zero_in_range I8 = search rules
-zero_in_range I16 = search rules
-zero_in_range I32 = search rules
-zero_in_range I64 = search rules
-zero_in_range U8 = search rules
-zero_in_range U16 = search rules
-zero_in_range U32 = search rules
-zero_in_range U64 = search rules
 
 -- ---- expressions
 

@@ -6,6 +6,4 @@ mod Statements
 mod Calls
 mod Locality
 mod Frame
-mod Depth
-mod Ranges
 mod Words

@@ -19,10 +19,11 @@ use Rattle.vk_meaning.specs.Points.{Variable, variable_named, Point, past, branc
 use Rattle.vk_meaning.specs.Expressions.{Context, Variables, with_datum, integer_type, value_of, address_of}
 use Rattle.vk_meaning.specs.Types.{is_written_type}
 use Rattle.vk_meaning.specs.Statements.{then_do, combined, assigned, assigned_by, assignment_to, variable_of, condition_of, initialised, declared, return_of, told, told_by, run, run_simd, run_all}
-use Rattle.vk_meaning_laws.specs.Ranges.{IsNumberOf}
+use Rattle.vk_meaning_terms.specs.Ranges.{IsNumberOf}
 use Rattle.vk_meaning_laws.specs.Tame.{IsTame, IsTameOptional, IsWrittenElement, IsTameTarget, IsTameStmt, AreTameStmts}
 use Rattle.vk_meaning_laws.proofs.Sights.{Sight, TakesWords, both_got, Keeps, IsReadable, IsOwned, keeps_then, keeps_number, keeps_weaken, keeps_given, keeps_own, keeps_stored, keeps_answered}
-use Rattle.vk_meaning_laws.proofs.Expressions.{Allowed, free, tame, allow, Free, free_known, readable_as, Sees, Stands, zero_in_range, keeps_both, keeps_value, keeps_address, keeps_written, keeps_first}
+use Rattle.vk_meaning_laws.proofs.Expressions.{Allowed, free, tame, allow, Free, free_known, readable_as, Sees, Stands, keeps_both, keeps_value, keeps_address, keeps_written, keeps_first}
+use Rattle.vk_meaning_terms.proofs.Zero.{zero_in_range}
 use Rattle.vk_meaning_laws.proofs.Variables.{InScope, in_binding, in_inside, in_after, AllFine, fine_in, fine_assigned, fine_declared}
 use Rattle.vk_meaning_laws.proofs.Effects.{IsReturned, both_fell, both_returned, Goes, Evaluates, on_alike, goes_fell, goes_broke, goes_continued, goes_then, goes_branch, goes_turns, goes_repeat, goes_looped, goes_evaluate, goes_assign}
 

@@ -14,9 +14,9 @@ use Rattle.vk_meaning.specs.World.{Array, array_at, no_array, first_memory, Memo
 use Rattle.vk_meaning.specs.Data.{Datum, Value, got, halts}
 use Rattle.vk_meaning.specs.Programs.{Definition, definition_of, initial_number, array_of_object, array_defined, put_in, in_order, arrays_of}
 use Rattle.vk_meaning.specs.Meaning.{means, memory_of}
-use Rattle.vk_meaning_laws.specs.Ranges.{HasWords, IsNumberOf}
+use Rattle.vk_meaning_terms.specs.Ranges.{HasWords, IsNumberOf}
 use Rattle.vk_meaning_laws.proofs.Sights.{Sight, AlikeValues, both_got, both_halt, IsReadable}
-use Rattle.vk_meaning_laws.proofs.Expressions.{zero_in_range}
+use Rattle.vk_meaning_terms.proofs.Zero.{zero_in_range}
 use Rattle.vk_meaning_laws.proofs.Calls.{free_call, free_result}
 
 -- the same world, which has words of the arrays' types

@@ -1,4 +1,2 @@
 pub mod Tame
 pub mod Reach
-pub mod Depth
-pub mod Ranges

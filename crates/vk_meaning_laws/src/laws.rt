@@ -1,20 +1,14 @@
 // The laws of calls.
 
-ghost use Rattle.std.specs.Prelude.{◌≡◌, ◌<◌, ◌≤◌, ℕ, Bool, List, Some, true};
-ghost use Rattle.vk_types.specs.declared.types.Ty.{Ty};
-ghost use Rattle.vk_types.specs.Numbers.{IsInRange};
-ghost use Rattle.vk_ast.specs.Tree.{Tree};
+ghost use Rattle.std.specs.Prelude.{◌≡◌, ◌<◌, ℕ, Bool, List, Some, true};
 ghost use Rattle.vk_rules_book.specs.Rules.{Subject};
-ghost use Rattle.vk_rules_book.specs.Scopes.{Scope, types_of};
-ghost use Rattle.vk_rules_book.specs.Typings.{number_type, typing_of};
-ghost use Rattle.vk_meaning.specs.Data.{Datum, got, number_in};
-ghost use Rattle.vk_meaning.specs.Expressions.{Context, Variables, value_of};
+ghost use Rattle.vk_rules_book.specs.Scopes.{types_of};
+ghost use Rattle.vk_meaning.specs.Data.{Datum, got};
 ghost use Rattle.vk_meaning.specs.Lanes.{AreApart, AreTyped, NamesCell, Words, arguments_of};
-ghost use Rattle.vk_meaning.specs.Meaning.{call_of, call_within, called_where_defined, means, memory_of};
+ghost use Rattle.vk_meaning.specs.Meaning.{call_of, means, memory_of};
 ghost use Rattle.vk_meaning.specs.Programs.{Definition, arrays_of, definition_of};
 ghost use Rattle.vk_meaning.specs.World.{Memory, World, first_memory};
-ghost use Rattle.vk_meaning_laws.specs.Depth.{IsShallow};
-ghost use Rattle.vk_meaning_laws.specs.Ranges.{AreRanged, CallsAreRanged, HasWords, IsNumberOf};
+ghost use Rattle.vk_meaning_terms.specs.Ranges.{HasWords, IsNumberOf};
 ghost use Rattle.vk_meaning_laws.specs.Reach.{AgreeOn, CoversReach, EndAlikeOn, IsIn, IsUndisturbed, behind_events};
 ghost use Rattle.vk_meaning_laws.specs.Tame.{ConstsAreFixed, IsLaneFunction, IsTameProgram};
 
@@ -53,21 +47,9 @@ pub fn stands_in_any_run()
         → call_of units turns text ds w ≡ behind_events w.events (means units turns text ds w.memory) }
 {}
 
-/// Where no chain of calls from a function has more than n functions, calls that are cut off at a greater depth do the same. So a call
-/// is one of the function's definition, whose own calls are such calls again.
-pub fn depth_is_of_no_matter()
-    ensures deeper { (units : List Subject) (turns n m : ℕ) (text : List ℕ) → n ≤ m → IsShallow n units text
-        → call_within n units turns text ≡ call_within m units turns text }
-    ensures unfolds { (units : List Subject) (turns : ℕ) (text : List ℕ) → IsShallow 32 units text
-        → call_of units turns text ≡ called_where_defined units turns (call_of units turns) (definition_of units text) }
-{}
-
-/// Numbers are of their types: what an expression gives, where its variables and its calls give such numbers; what a call of a function
-/// gives that is defined; and the words of all elements, as a program begins and as a call leaves them.
+/// Numbers are of their types: what a call of a function gives that is defined, and the words of all elements, as a program begins and
+/// as a call leaves them.
 pub fn numbers_are_of_their_types()
-    ensures expressions { (c : Context) (scope : Scope) (vs : Variables) → CallsAreRanged c scope → AreRanged scope vs
-        → (e : Tree) (t : Ty) → number_type (typing_of scope e) ≡ Some t → (w w' : World) (d : Datum) → value_of c scope vs e w ≡ got d w'
-        → IsInRange t (number_in d) }
     ensures results { (units : List Subject) (turns : ℕ) (text : List ℕ) (d : Definition) → definition_of units text ≡ Some d
         → (ds : List Datum) (m : Memory) (x : Datum) (w : World) → means units turns text ds m ≡ got x w → IsNumberOf d.function.result x }
     ensures first { (units : List Subject) → HasWords (arrays_of units) (first_memory (arrays_of units)) }

@@ -1,5 +1,5 @@
-//! What holds of every call of a function: what it reads and writes, that it does the same in the middle of a run, that the bound on
-//! the depth of calls is of no matter, and the ranges of numbers.
+//! What holds of every call of a function: what it reads and writes, that it does the same in the middle of any run, and that numbers are
+//! of their types.
 #![tactic(auto)]
 
 pub mod laws;

@@ -1,9 +1,5 @@
-use Rattle.vk_meaning_laws.proofs.Ranges.{in_range}
 use Rattle.vk_meaning_laws.proofs.Words.{first_words, results_ranged, words_kept}
 use Rattle.vk_meaning_laws.proofs.laws.numbers_are_of_their_types.Goals as goal
-
-pub returns-clause-expressions : goal.returns-clause-expressions
-returns-clause-expressions c = in_range
 
 pub returns-clause-results : goal.returns-clause-results
 returns-clause-results c = results_ranged

@@ -31,8 +31,8 @@ use Rattle.vk_meaning.specs.World.{Array, array_at, World}
 use Rattle.vk_meaning.specs.Data.{Datum, number, pointer, nothing, number_in, Value, got, halts, with_value, Action, given, and_then, then_number, fits_offset, pointer_at, moved, named_element, array_of, at_element, loaded}
 use Rattle.vk_meaning.specs.Points.{Variable, variable_among, variable_named}
 use Rattle.vk_meaning.specs.Expressions.{Context, Variables, integer_type, pointed_type, object_value, name_value, answered, integers_value, moved_by, operator_value, converted, subscripted, truth_of, value_of, address_of, with_arguments}
-use Rattle.vk_meaning_laws.specs.Ranges.{IsNumberOf, IsNumberOfTyping, AreRanged, result_in as result_of, CallsAreRanged}
-use Rattle.vk_meaning_laws.proofs.Expressions.{zero_in_range}
+use Rattle.vk_meaning_terms.specs.Ranges.{IsNumberOf, IsNumberOfTyping, AreRanged, result_in as result_of, CallsAreRanged}
+use Rattle.vk_meaning_terms.proofs.Zero.{zero_in_range}
 
 -- ---- operators
 

@@ -23,7 +23,7 @@ use Rattle.vk_meaning.specs.Guards.{guard_pairs, guard_holds}
 use Rattle.vk_meaning.specs.Statements.{at_world, with_variable, fell, returned, on_value, then_do, branch, turns, repeat, looped, assign_variable, evaluate, combined, assigned, assigned_by, assignment_to, variable_of, condition_of, iterations, initialised, return_of, told, told_by, run, run_simd, run_all}
 use Rattle.vk_meaning.specs.Programs.{Definition, definition_of, first_point}
 use Rattle.vk_meaning.specs.Meaning.{ended, first_variables, Calls, call_by, context_of, called_where_defined, call_within, call_of}
-use Rattle.vk_meaning_laws.specs.Depth.{EachCall, EachCallOf, EachCallMaybe, EachCallIn, EachCallInLoop, EachCallInAll, EachCallee, IsShallow}
+use Rattle.vk_meaning_terms.specs.Depth.{EachCall, EachCallOf, EachCallMaybe, EachCallIn, EachCallInLoop, EachCallInAll, EachCallee, IsShallow}
 
 abbrev CallsByName : Type 0
 CallsByName = NameId → List Datum → Action
