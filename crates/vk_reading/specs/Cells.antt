@@ -1,8 +1,11 @@
 -- The reader's cells, and the memory that they stand for.
-use Rattle.std.specs.Prelude.{◌≡◌, ℕ, ℤ, pos, negsuc, List, length, Option, Some, None, slice_get}
+use Rattle.std.specs.Prelude.{◌≡◌, ℕ, ℤ, pos, negsuc, nat_lt, cond, List, length, Option, Some, None, Result, Ok, Err, slice_get, slice_set}
+use Rattle.vk_types.specs.declared.types.Stop.{Stop}
+use Rattle.vk_types.specs.declared.types.Stop.TheVariants.{Bounds}
 use Rattle.vk_types.specs.declared.types.Word.{Word}
 use Rattle.vk_types.specs.Numbers.{IsCanonical}
-use Rattle.vk_meaning.specs.World.{Array, array_at, Memory}
+use Rattle.vk_meaning.specs.World.{Array, array_at, Memory, World}
+use Rattle.vk_meaning.specs.Data.{nothing, Value, got, halts}
 use Rattle.vk_reading.specs.declared.cells.Row.{Row}
 
 abbrev pub word_in : Option Word → ℕ
@@ -34,3 +37,19 @@ HaveWords rows = (a i : ℕ) (r : Row) (w : Word) → slice_get rows a ≡ Some 
 abbrev pub word_at : List Word → (offset : ℤ) → Option Word
 word_at words (pos n) = slice_get words n
 word_at words (negsuc n) = None
+
+-- the words with another one at an offset, where there is one
+abbrev pub put_at : List Word → (offset : ℤ) → Word → Option (List Word)
+put_at words (pos n) w = cond (nat_lt n (length words)) (Some (slice_set words n w)) None
+put_at words (negsuc n) w = None
+
+-- they were put, or nothing changed and that stops
+abbrev pub ArePut : Result (Unit {0}) Stop → Option (List Word) → (before now : List Word) → Type 0
+ArePut (Ok done) (Some words) before now = now ≡ words
+ArePut (Err stop) None before now = (stop ≡ Bounds) × (now ≡ before)
+ArePut _ _ before now = ⊥
+
+-- what a store ends with in this world
+abbrev pub done_in : Result (Unit {0}) Stop → World → Value
+done_in (Ok done) w = got nothing w
+done_in (Err stop) w = halts stop w

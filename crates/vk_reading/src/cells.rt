@@ -1,12 +1,13 @@
 // The cells of a program's arrays.
 
 ghost use Rattle.std.specs.Prelude.{◌≡◌, IfNone, IfOk, IfSome, List, None, Some, slice_get};
+ghost use Rattle.vk_types.specs.Numbers.{IsCanonical, number_of};
 ghost use Rattle.vk_meaning.specs.World.{Array, Event};
-ghost use Rattle.vk_meaning.specs.Data.{loaded, pointer};
-ghost use Rattle.vk_reading.specs.Cells.{AreRowsOf, HaveWords, memory_in, word_at};
+ghost use Rattle.vk_meaning.specs.Data.{loaded, pointer, stored};
+ghost use Rattle.vk_reading.specs.Cells.{ArePut, AreRowsOf, HaveWords, done_in, memory_in, put_at, word_at};
 ghost use Rattle.vk_reading.specs.Held.{IsHeld, value_in};
 
-use crate::held::Held;
+use crate::held::{Held, Typed};
 use crate::pointers::Place;
 use vk_types::{Stop, Ty, Word, convert};
 
@@ -41,6 +42,20 @@ fn word_at(words: &[Word], offset: i32) -> Option<Word>
     }
 }
 
+// Another word at an offset.
+fn put(words: &mut [Word], offset: i32, word: Word) -> Result<(), Stop>
+    ensures { ArePut result (put_at words.old offset word) words.old words.new }
+{
+    let Ok(index) = usize::try_from(offset) else {
+        return Err(Stop::Bounds);
+    };
+    if index >= words.len() {
+        return Err(Stop::Bounds);
+    }
+    words[index] = word;
+    Ok(())
+}
+
 impl Cells {
     /// The number in the element that the pointer points to, as one of the pointer's type; it stops where there is no such element
     /// (C17 6.3.2.1).
@@ -61,5 +76,23 @@ impl Cells {
             ty: p.to,
             word: convert(row.ty, p.to, word),
         })
+    }
+
+    /// The number is stored in the element that the pointer points to, as one of the array's type; it stops where there is no such
+    /// element, and then nothing has changed (C17 6.5.16).
+    pub fn store(&mut self, p: Place, n: Typed) -> Result<(), Stop>
+        requires number { IsCanonical n.ty n.word.0 }
+        requires words { HaveWords self.old.rows.items }
+        ensures value { (arrays : List Array) (events : List Event) → AreRowsOf self.old.rows.items arrays
+            → done_in result (record { memory = memory_in self.new.rows.items; events = events })
+            ≡ stored arrays (pointer p.array p.offset) (number_of n.ty n.word.0) (record { memory = memory_in self.old.rows.items; events = events }) }
+        ensures rows { (arrays : List Array) → AreRowsOf self.old.rows.items arrays → AreRowsOf self.new.rows.items arrays }
+        ensures words { HaveWords self.new.rows.items }
+    {
+        let Some(row) = self.rows.get_mut(p.array as usize) else {
+            return Err(Stop::Bounds);
+        };
+        let word = convert(n.ty, row.ty, n.word);
+        put(&mut row.words, p.offset, word)
     }
 }
