@@ -42,18 +42,21 @@ fn word_at(words: &[Word], offset: i32) -> Option<Word>
     }
 }
 
-// Another word at an offset.
-fn put(words: &mut [Word], offset: i32, word: Word) -> Result<(), Stop>
-    ensures { ArePut result (put_at words.old offset word) words.old words.new }
-{
-    let Ok(index) = usize::try_from(offset) else {
-        return Err(Stop::Bounds);
-    };
-    if index >= words.len() {
-        return Err(Stop::Bounds);
+impl Row {
+    // Another word at an offset.
+    fn put(&mut self, offset: i32, word: Word) -> Result<(), Stop>
+        ensures ty { self.new.ty ≡ self.old.ty }
+        ensures words { ArePut result (put_at self.old.words.items offset word) self.old.words.items self.new.words.items }
+    {
+        let Ok(index) = usize::try_from(offset) else {
+            return Err(Stop::Bounds);
+        };
+        if index >= self.words.len() {
+            return Err(Stop::Bounds);
+        }
+        self.words[index] = word;
+        Ok(())
     }
-    words[index] = word;
-    Ok(())
 }
 
 impl Cells {
@@ -93,6 +96,6 @@ impl Cells {
             return Err(Stop::Bounds);
         };
         let word = convert(n.ty, row.ty, n.word);
-        put(&mut row.words, p.offset, word)
+        row.put(p.offset, word)
     }
 }
