@@ -7,7 +7,8 @@ ghost use Rattle.vk_meaning.specs.Data.{as_type, number_in, pointer_in};
 ghost use Rattle.vk_reading.specs.Held.{IsHeld, datum_of};
 
 use vk_kinds::CType;
-use vk_types::{Ty, Word, convert, wrap};
+use vk_meaning::RunFail;
+use vk_types::{Stop, Ty, Word, convert, wrap};
 
 /// The value of an expression: a word of an integer type, a pointer to elements of a type, or nothing where the type is void.
 #[derive(Clone, Copy, PartialEq, Eq, Debug)]
@@ -15,6 +16,13 @@ pub enum Held {
     Number { ty: Ty, word: Word },
     Pointer { to: Ty, array: u32, offset: i32 },
     Nothing,
+}
+
+/// Why an evaluation gives nothing: the program stopped, or a failure outside it.
+#[derive(Clone, Copy, PartialEq, Eq, Debug)]
+pub enum Halt {
+    Halted(Stop),
+    Failed(RunFail),
 }
 
 /// A number with its type.

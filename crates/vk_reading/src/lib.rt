@@ -7,7 +7,8 @@ pub mod cells;
 pub mod held;
 pub mod operators;
 pub mod pointers;
+pub mod prints;
 
 pub use cells::{Cells, Row};
-pub use held::{Held, Typed};
+pub use held::{Halt, Held, Typed};
 pub use pointers::Place;
