@@ -3,3 +3,4 @@ mod Functions
 mod Programs
 mod Order
 mod Guards
+mod Cells
