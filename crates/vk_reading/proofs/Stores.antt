@@ -1,5 +1,5 @@
 -- What a store does with the rows of some arrays.
-use Rattle.std.proofs.Common.{◌≡◌, ◌<◌, ◌≤◌, ◌&&◌, ◌==◌, ℕ, zero, suc, nat_lt, Bool, true, false, cond, List, [], ◌∷◌, length, Option, Some, None, Result, Ok, Err, slice_get, slice_set, get_or, ℤ, pos, negsuc, refl, subst, sym, ap, arith, rules, ◌∙◌}
+use Rattle.std.proofs.Common.{◌≡◌, ◌<◌, ◌&&◌, ◌==◌, ℕ, zero, suc, nat_lt, Bool, true, false, cond, List, [], ◌∷◌, length, Option, Some, None, Result, Ok, Err, slice_get, slice_set, get_or, ℤ, pos, negsuc, refl, subst, sym, ap, arith, rules, ◌∙◌}
 use Rattle.vk_types.specs.declared.types.Ty.{Ty}
 use Rattle.vk_types.specs.declared.types.Word.{Word}
 use Rattle.std.proofs.lemmas.List.{length-set}
@@ -8,8 +8,8 @@ use Rattle.vk_types.specs.declared.types.Stop.{Stop}
 use Rattle.vk_types.specs.declared.types.Stop.TheVariants.{Bounds}
 use Rattle.vk_types.specs.Numbers.{number_of, word_of, wrap_number, IsCanonical}
 use Rattle.vk_numbers.proofs.Numbers.{word_of-number}
-use Rattle.vk_meaning.specs.World.{Array, array_at, Event, Memory, World, with_cell, in_memory}
-use Rattle.vk_meaning.specs.Data.{number, pointer, nothing, Value, got, halts, element_at, at_element, stored}
+use Rattle.vk_meaning.specs.World.{Array, array_at, Event, World, with_cell, in_memory}
+use Rattle.vk_meaning.specs.Data.{pointer, nothing, Value, got, halts, at_element, stored}
 use Rattle.vk_reading.specs.declared.cells.Row.{Row}
 use Rattle.vk_reading.specs.Cells.{word_in, cell_in, memory_in, IsRowOf, AreRowsOf, HaveWords, put_at, ArePut, done_in}
 

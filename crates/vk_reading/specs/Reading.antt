@@ -1,12 +1,12 @@
 -- What the reader of a program answers and prints: the contract of `read_program`.
 use Rattle.std.specs.Prelude.{◌≡◌, ◌++◌, ℕ, List, Option, Some, None, Result, Ok, Err, IsTrue}
 use Rattle.vk_types.specs.declared.types.Stop.{Stop}
-use Rattle.vk_io.specs.Counts.{Rose, count_after}
+use Rattle.vk_io.specs.Counts.{Rose}
 use Rattle.vk_io.specs.Sink.{SinkState, GrowsWithin, Stays}
 use Rattle.vk_rules_book.specs.Rules.{Subject}
 use Rattle.vk_meaning.specs.World.{Event, World}
-use Rattle.vk_meaning.specs.Data.{Value, got, halts, Action}
-use Rattle.vk_meaning.specs.Meaning.{stop_of, world_of, reading, printed_numbers, reading_text}
+use Rattle.vk_meaning.specs.Data.{got, halts, Action}
+use Rattle.vk_meaning.specs.Meaning.{stop_of, world_of, reading, reading_text}
 use Rattle.vk_meaning.specs.declared.reading.Reading.{Reading}
 use Rattle.vk_meaning.specs.declared.reading.Reading.TheVariants.{Done, Stopped}
 use Rattle.vk_meaning.specs.declared.reading.RunFail.{RunFail}

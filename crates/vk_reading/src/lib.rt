@@ -8,7 +8,9 @@ pub mod held;
 pub mod operators;
 pub mod pointers;
 pub mod prints;
+pub mod variables;
 
 pub use cells::{Cells, Row};
 pub use held::{Halt, Held, Typed};
 pub use pointers::Place;
+pub use variables::Variable;
