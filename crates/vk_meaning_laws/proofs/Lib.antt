@@ -7,3 +7,4 @@ mod Calls
 mod Locality
 mod Frame
 mod Words
+mod Arguments

@@ -1,11 +1,13 @@
 // The laws of calls.
 
-ghost use Rattle.std.specs.Prelude.{◌≡◌, ◌<◌, ℕ, Bool, List, Some, true};
+ghost use Rattle.std.specs.Prelude.{◌≡◌, ◌<◌, ℕ, length, Bool, List, Some, true};
 ghost use Rattle.vk_rules_book.specs.Rules.{Subject};
 ghost use Rattle.vk_rules_book.specs.Scopes.{types_of};
 ghost use Rattle.vk_meaning.specs.Data.{Datum, got};
-ghost use Rattle.vk_meaning.specs.Lanes.{AreApart, AreTyped, NamesCell, Words, arguments_of};
+ghost use Rattle.vk_meaning.specs.Lanes.{AreApart, AreTyped, NamesCell, Words, argument, arguments_of, datum_of};
 ghost use Rattle.vk_meaning.specs.Meaning.{call_of, means, memory_of};
+ghost use Rattle.vk_kinds.specs.declared.heads.CType.{CType};
+ghost use Rattle.vk_meaning.specs.Types.{type_at};
 ghost use Rattle.vk_meaning.specs.Programs.{Definition, arrays_of, definition_of};
 ghost use Rattle.vk_meaning.specs.World.{Memory, World, first_memory};
 ghost use Rattle.vk_meaning_terms.specs.Ranges.{HasWords, IsNumberOf};
@@ -55,4 +57,9 @@ pub fn numbers_are_of_their_types()
     ensures first { (units : List Subject) → HasWords (arrays_of units) (first_memory (arrays_of units)) }
     ensures memory { (units : List Subject) (turns : ℕ) (text : List ℕ) (ds : List Datum) (m : Memory) → HasWords (arrays_of units) m
         → HasWords (arrays_of units) (memory_of (means units turns text ds m)) }
+{}
+
+/// An argument of a lane is what its word stands for.
+pub fn arguments_are_their_words()
+    ensures { (ts : List CType) (words : Words) (p lane : ℕ) → p < length ts → argument ts words p lane ≡ datum_of (type_at ts p) (words p lane) }
 {}
