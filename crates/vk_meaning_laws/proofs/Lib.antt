@@ -8,3 +8,4 @@ mod Locality
 mod Frame
 mod Words
 mod Arguments
+mod OneAnswer

@@ -1,15 +1,17 @@
 // The laws of calls.
 
-ghost use Rattle.std.specs.Prelude.{◌≡◌, ◌<◌, ℕ, length, Bool, List, Some, true};
+ghost use Rattle.std.specs.Prelude.{◌≡◌, ◌<◌, ℕ, length, Bool, List, Option, Some, true};
+ghost use Rattle.vk_types.specs.declared.types.Stop.{Stop};
 ghost use Rattle.vk_rules_book.specs.Rules.{Subject};
 ghost use Rattle.vk_rules_book.specs.Scopes.{types_of};
-ghost use Rattle.vk_meaning.specs.Data.{Datum, got};
+ghost use Rattle.vk_meaning.specs.Data.{Datum, Value, got};
+ghost use Rattle.vk_meaning.specs.LaneWise.{IsLaneWise};
 ghost use Rattle.vk_meaning.specs.Lanes.{AreApart, AreTyped, NamesCell, Words, argument, arguments_of, datum_of};
 ghost use Rattle.vk_meaning.specs.Meaning.{call_of, means, memory_of};
 ghost use Rattle.vk_kinds.specs.declared.heads.CType.{CType};
 ghost use Rattle.vk_meaning.specs.Types.{type_at};
 ghost use Rattle.vk_meaning.specs.Programs.{Definition, arrays_of, definition_of};
-ghost use Rattle.vk_meaning.specs.World.{Memory, World, first_memory};
+ghost use Rattle.vk_meaning.specs.World.{Array, Memory, World, first_memory};
 ghost use Rattle.vk_meaning_terms.specs.Ranges.{HasWords, IsNumberOf};
 ghost use Rattle.vk_meaning_laws.specs.Reach.{AgreeOn, CoversReach, EndAlikeOn, IsIn, IsUndisturbed, behind_events};
 ghost use Rattle.vk_meaning_laws.specs.Tame.{ConstsAreFixed, IsLaneFunction, IsTameProgram};
@@ -62,4 +64,17 @@ pub fn numbers_are_of_their_types()
 /// An argument of a lane is what its word stands for.
 pub fn arguments_are_their_words()
     ensures { (ts : List CType) (words : Words) (p lane : ℕ) → p < length ts → argument ts words p lane ≡ datum_of (type_at ts p) (words p lane) }
+{}
+
+/// A call on lanes has one answer, whatever the order of its lanes: two answers from the same arguments, memory and old results have the
+/// same words in all cells and the same stops.
+pub fn lanes_have_one_answer()
+    ensures memory { (scalar : List Datum → Memory → Value) (ts : List CType) (arrays : List Array) (lanes : ℕ) (mask : ℕ → Bool) (words : Words)
+        (m : Memory) (old new new' : ℕ → ℕ) (stops stops' : ℕ → Option Stop) (n n' : Memory)
+        → IsLaneWise scalar ts arrays lanes mask words m old new stops n → IsLaneWise scalar ts arrays lanes mask words m old new' stops' n'
+        → (a i : ℕ) → n a i ≡ n' a i }
+    ensures stops { (scalar : List Datum → Memory → Value) (ts : List CType) (arrays : List Array) (lanes : ℕ) (mask : ℕ → Bool) (words : Words)
+        (m : Memory) (old new new' : ℕ → ℕ) (stops stops' : ℕ → Option Stop) (n n' : Memory)
+        → IsLaneWise scalar ts arrays lanes mask words m old new stops n → IsLaneWise scalar ts arrays lanes mask words m old new' stops' n'
+        → (j : ℕ) → j < lanes → stops j ≡ stops' j }
 {}
