@@ -13,7 +13,7 @@ use Rattle.vk_rules_book.specs.Scopes.{first_declaration, last_binding, meaning_
 use Rattle.vk_rules_book.specs.Typings.{are_arguments, choice_typing}
 use Rattle.vk_rules_book.specs.Items.{length_of}
 use Rattle.vk_meaning.specs.Meaning.{reading}
-use Rattle.vk_meaning_tests.proofs.Forms.{id, lit, var, index, deref, two, choice, call, block, local, assign, value, if_only, if_else, while_loop, do_loop, for_loop, return_value, param, function_of, object_of, unit_of, told, tells}
+use Rattle.vk_meaning_tests.proofs.Forms.{addr, id, lit, var, index, deref, two, choice, call, block, local, assign, value, if_only, if_else, while_loop, do_loop, for_loop, return_value, param, function_of, object_of, unit_of, told, tells}
 
 -- int t(int a) { print(a); return a; }
 -- int a[4];
@@ -330,3 +330,17 @@ in_an_initialiser = unit_of (codes "a" ∷ codes "z" ∷ codes "t" ∷ codes "k"
 stops_in_an_initialiser : told (reading (in_an_initialiser ∷ []) 4) ≡ tells ([]) ([]) (Some Divide)
 unfolding int_wrap from_bits first_declaration last_binding meaning_of with_params are_arguments choice_typing length_of constant_of
 stops_in_an_initialiser = refl
+
+-- int t(int a) { print(a); return a; }
+-- int a[4];
+-- int main(void) { *(t(1) + &a[t(2)]) = t(3); print(a[3]); return 0; }
+abbrev pointer_first : Subject
+pointer_first = unit_of (codes "t" ∷ codes "a" ∷ codes "print" ∷ codes "main" ∷ [])
+    (function_of (id 0) false (Int I32) ((param (Some (id 1)) (Int I32)) ∷ []) (Some (block ((value (call (id 2) ((var (id 1)) ∷ []))) ∷ (return_value (Some (var (id 1)))) ∷ [])))
+    ∷ object_of (id 1) I32 false false (Some (Some (lit I32 4))) None false
+    ∷ function_of (id 3) false (Int I32) ([]) (Some (block ((assign None (deref (two b.Add (call (id 0) ((lit I32 1) ∷ [])) (addr (index (var (id 1)) (call (id 0) ((lit I32 2) ∷ [])))))) (call (id 0) ((lit I32 3) ∷ []))) ∷ (value (call (id 2) ((index (var (id 1)) (lit I32 3)) ∷ []))) ∷ (return_value (Some (lit I32 0))) ∷ [])))
+    ∷ [])
+
+the_pointer_of_a_sum_first : told (reading (pointer_first ∷ []) 20) ≡ tells ((pos 2) ∷ (pos 1) ∷ (pos 3) ∷ (pos 3) ∷ []) [] None
+unfolding int_wrap from_bits first_declaration last_binding meaning_of with_params are_arguments choice_typing length_of constant_of
+the_pointer_of_a_sum_first = refl
