@@ -41,6 +41,12 @@ zip2-map_right h g [] ys = refl
 zip2-map_right h g (x ∷ xs) [] = refl
 zip2-map_right h g (x ∷ xs) (y ∷ ys) = ap (λ zs. h x (g y) ∷ zs) (zip2-map_right h g xs ys)
 
+-- with the first vector once more
+pub zip2_of_both : (f g : ℕ → ℕ → ℕ) (xs ys : List ℕ) → zip2 f xs (zip2 g xs ys) ≡ zip2 (λ x y. f x (g x y)) xs ys
+zip2_of_both f g [] ys = refl
+zip2_of_both f g (x ∷ xs) [] = refl
+zip2_of_both f g (x ∷ xs) (y ∷ ys) = ap (λ zs. f x (g x y) ∷ zs) (zip2_of_both f g xs ys)
+
 -- with a constant in each lane
 pub with_constant : (f : ℕ → ℕ → ℕ) (k : ℕ) (xs : List ℕ) → length xs ≡ 8 → zip2 f xs (k ∷ k ∷ k ∷ k ∷ k ∷ k ∷ k ∷ k ∷ []) ≡ map (λ x. f x k) xs
 with_constant f k xs n = eight (λ xs. zip2 f xs (k ∷ k ∷ k ∷ k ∷ k ∷ k ∷ k ∷ k ∷ []) ≡ map (λ x. f x k) xs) (λ a b c d e f g h. refl) xs n
