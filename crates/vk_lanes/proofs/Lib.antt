@@ -1,3 +1,4 @@
 pub mod Bits
+pub mod Operators
 pub mod Vectors
 pub mod Written

@@ -1,6 +1,11 @@
 -- Operators as the code computes them, on 64-bit patterns.
 use Rattle.std.specs.Prelude.{ℕ, ◌+◌, ◌-◌, ◌*◌, ◌/◌, ◌%◌, ◌^◌, ◌==◌, nat_lt, nat_le, not, cond, bit_and, bit_or, bit_xor}
+use Rattle.std.specs.Prelude.{Option, Some, None}
 use Rattle.std.specs.Int.{w64, bit_not}
+use Rattle.vk_types.specs.declared.types.Op1.{Op1}
+use Rattle.vk_types.specs.declared.types.Op1.TheVariants as One
+use Rattle.vk_types.specs.declared.types.Op2.{Op2}
+use Rattle.vk_types.specs.declared.types.Op2.TheVariants as Two
 use Rattle.vk_types.specs.declared.types.Ty.{Ty}
 use Rattle.vk_types.specs.declared.types.Ty.TheVariants.{I8, I16, I32, I64, U8, U16, U32, U64}
 use Rattle.vk_types.specs.Numbers.{width_of}
@@ -62,3 +67,24 @@ pattern Neg t x y = extended t (wrap_sub 0 x)
 pattern Not t x y = extended t (bit_not w64 x)
 pattern Extend t x y = extended t x
 pattern Copy t x y = x
+
+-- how the code computes an operator, but for quotients and remainders
+abbrev pub lanewise_of : Op2 → Option Lanewise
+lanewise_of Two.Add = Some Add
+lanewise_of Two.Sub = Some Sub
+lanewise_of Two.Mul = Some Mul
+lanewise_of Two.Div = None
+lanewise_of Two.Rem = None
+lanewise_of Two.And = Some And
+lanewise_of Two.Or = Some Or
+lanewise_of Two.Xor = Some Xor
+lanewise_of Two.Shl = Some Shl
+lanewise_of Two.Shr = Some Shr
+lanewise_of Two.Eq = Some Eq
+lanewise_of Two.Ne = Some Ne
+lanewise_of Two.Lt = Some Lt
+lanewise_of Two.Le = Some Le
+
+abbrev pub lanewise1_of : Op1 → Lanewise
+lanewise1_of One.Neg = Neg
+lanewise1_of One.Not = Not
