@@ -1,5 +1,5 @@
 -- Rows of words, written a part at a time.
-use Rattle.std.proofs.Common.{◌≡◌, ℕ, zero, suc, ◌+◌, ◌-◌, ◌*◌, ◌%◌, ◌^◌, ◌<◌, ◌≤◌, ◌≢◌, ◌⊎◌, inl, inr, List, [], ◌∷◌, length, get_or, set, Bool, true, false, not, ◌&&◌, cond, ltb, leb, eqb, bit_and, map, ap, ap₂, sym, subst, ◌∙◌, refl, arith, w64}
+use Rattle.std.proofs.Common.{◌≡◌, ℕ, zero, suc, ◌+◌, ◌-◌, ◌*◌, ◌%◌, ◌^◌, ◌<◌, ◌≤◌, ◌≢◌, ◌⊎◌, inl, inr, List, [], ◌∷◌, length, get_or, set, Bool, true, false, not, ◌&&◌, ◌||◌, cond, ltb, leb, eqb, bit_and, map, ap, ap₂, sym, subst, ◌∙◌, refl, arith, w64}
 use Rattle.std.proofs.Math.Pow.{pow_pos}
 use Rattle.std.proofs.lemmas.Nat.Bits.{and_pow, bit_at-lt}
 use Rattle.std.proofs.lemmas.Simd.{get_or-sel_l, tops_compared}
@@ -11,7 +11,10 @@ use Rattle.std.specs.Simd.Lanes.{zip2}
 use lib.Lanes.{sel_l, top}
 use Rattle.vk_types.specs.declared.types.Word.{Word}
 use Rattle.vk_lanes.specs.Words.{word_in}
-use Rattle.vk_lanes.specs.Inner.Blocks.{WritesFrom, is_between}
+use Rattle.vk_lanes.specs.Inner.Blocks.{Marks, WritesFrom, WritesOn, chosen, is_between}
+use Rattle.vk_lanes.specs.declared.mask.LaneMask.{LaneMask}
+use Rattle.vk_lanes.specs.Masks.{is_on}
+use Rattle.vk_lanes.specs.Kernels.{Writes}
 use Rattle.vk_lanes.proofs.Bits.{not_eqb, two}
 
 -- a number below eight
@@ -90,3 +93,71 @@ writes_more low n value old row w under inside e before i = elim (eqb_tells i n)
     at : i ≡ n → word_in (set row n (record { 0 = w })) i ≡ cond (is_between low (n + 1) i) (value i) (word_in old i)
     at h = ap (word_in (set row n (record { 0 = w }))) h ∙ ap (λ (x : Word). x.0) (get_or-set_same row n (record { 0 = w }) (record { 0 = 0 }) inside) ∙ e ∙ ap value (sym h)
       ∙ ap (λ t. cond t (value i) (word_in old i)) (sym (between low (n + 1) i (omega arith) (omega arith)))
+
+-- a part after a part
+same_test : (low mid high i : ℕ) → i < mid → i < high → is_between low mid i ≡ is_between low high i
+same_test low mid high i l h = ap (λ b. leb low i && b) (let a : ltb i mid ≡ true = grind (arith, nat_tests) in let b : ltb i high ≡ true = grind (arith, nat_tests) in a ∙ sym b)
+
+pub untouched : (low high : ℕ) (value : ℕ → ℕ) (old new : List Word) → WritesFrom low high value old new → (i : ℕ) → (i < low) ⊎ (high ≤ i) → word_in new i ≡ word_in old i
+untouched low high value old new w i o = w i ∙ ap (λ t. cond t (value i) (word_in old i)) (outside low high i o)
+
+touched : (low high : ℕ) (value : ℕ → ℕ) (old new : List Word) → WritesFrom low high value old new → (i : ℕ) → low ≤ i → i < high → word_in new i ≡ value i
+touched low high value old new w i l h = w i ∙ ap (λ t. cond t (value i) (word_in old i)) (between low high i l h)
+
+pub joins : (low mid high : ℕ) (on : ℕ → Bool) (value value' : ℕ → ℕ) (a b c : List Word) → low ≤ mid → mid ≤ high → WritesOn low mid on value a b → WritesOn mid high on value' b c →
+    ((i : ℕ) → mid ≤ i → i < high → value' i ≡ value i) → WritesOn low high on value a c
+joins low mid high on value value' a b c lm mh first second same i = elim (cases_lt i mid) [
+  | inl below ↦ untouched mid high (chosen on value' b) b c second i (inl below) ∙ first i ∙ ap (λ t. cond t (chosen on value a i) (word_in a i)) (same_test low mid high i below (omega arith))
+  | inr above ↦ elim (cases_lt i high) [
+    | inl inside ↦ touched mid high (chosen on value' b) b c second i above inside
+        ∙ ap₂ (λ v w. cond (on i) v w) (same i above inside) (untouched low mid (chosen on value a) a b first i (inr above))
+        ∙ ap (λ t. cond t (chosen on value a i) (word_in a i)) (sym (between low high i (omega arith) inside))
+    | inr past ↦ untouched mid high (chosen on value' b) b c second i (inr past) ∙ untouched low mid (chosen on value a) a b first i (inr above)
+        ∙ ap (λ t. cond t (chosen on value a i) (word_in a i)) (sym (outside low high i (inr past)))
+  ]
+]
+
+-- all lanes of a mask
+pub writes_all : (n : ℕ) (on : ℕ → Bool) (value : ℕ → ℕ) (old new : List Word) → ((i : ℕ) → n ≤ i → on i ≡ false) → WritesOn 0 n on value old new → Writes on value old new
+writes_all n on value old new off w i = elim (cases_lt i n) [
+  | inl inside ↦ touched 0 n (chosen on value old) old new w i (omega arith) inside
+  | inr past ↦ untouched 0 n (chosen on value old) old new w i (inr past) ∙ ap (λ t. cond t (value i) (word_in old i)) (sym (off i past))
+]
+
+-- only what is written in lanes that are on counts
+bool_cases : (b : Bool) → (b ≡ true) ⊎ (b ≡ false)
+bool_cases true = inl refl
+bool_cases false = inr refl
+
+pub writes_same : (on : ℕ → Bool) (value value' : ℕ → ℕ) (old new : List Word) → ((i : ℕ) → on i ≡ true → value i ≡ value' i) → Writes on value old new → Writes on value' old new
+writes_same on value value' old new same w i = elim (bool_cases (on i)) [
+  | inl on_it ↦ w i ∙ ap (λ v. cond (on i) v (word_in old i)) (same i on_it)
+  | inr off_it ↦ w i ∙ ap (λ t. cond t (value i) (word_in old i)) off_it ∙ ap (λ t. cond t (value' i) (word_in old i)) (sym off_it)
+]
+
+-- lanes marked one after the other
+pub marks_more : (flag : ℕ → Bool) (n : ℕ) (old new : LaneMask) → Marks n (flag n) old new → ((j : ℕ) → is_on old j ≡ (ltb j n && flag j)) → (j : ℕ) → is_on new j ≡ (ltb j (n + 1) && flag j)
+marks_more flag n old new marks before j = marks j ∙ ap (λ b. b || (eqb j n && flag n)) (before j) ∙ elim (eqb_tells j n) [
+  | inl here ↦ ap₂ (λ s t. (s && flag j) || (t && flag n)) (let s : ltb j n ≡ false = grind (arith, nat_tests, here.1) in s) here.0 ∙ ap flag (sym here.1)
+      ∙ ap (λ s. s && flag j) (let s : ltb j (n + 1) ≡ true = grind (arith, nat_tests, here.1) in sym s)
+  | inr there ↦ ap (λ t. (ltb j n && flag j) || (t && flag n)) there.0 ∙ or_false (ltb j n && flag j) ∙ ap (λ s. s && flag j) (same_below j n there.1)
+]
+  where
+    or_false : (b : Bool) → (b || false) ≡ b
+    or_false true = refl
+    or_false false = refl
+    same_below : (j n : ℕ) → j ≢ n → ltb j n ≡ ltb j (n + 1)
+    same_below j n ne = elim (cases_lt j n) [
+      | inl l ↦ let a : ltb j (n + 1) ≡ true = grind (arith, nat_tests) in let b : ltb j n ≡ true = grind (arith, nat_tests) in b ∙ sym a
+      | inr l ↦ let a : ltb j (n + 1) ≡ false = grind (arith, nat_tests) in let b : ltb j n ≡ false = grind (arith, nat_tests) in b ∙ sym a
+    ]
+
+pub marks_all : (on flag : ℕ → Bool) (n : ℕ) (mask : LaneMask) → ((i : ℕ) → n ≤ i → on i ≡ false) → ((j : ℕ) → is_on mask j ≡ (ltb j n && (on j && flag j))) → (j : ℕ) → is_on mask j ≡ (on j && flag j)
+marks_all on flag n mask off marks j = marks j ∙ elim (cases_lt j n) [
+  | inl l ↦ ap (λ s. s && (on j && flag j)) (let s : ltb j n ≡ true = grind (arith, nat_tests) in s)
+  | inr h ↦ ap (λ s. ltb j n && (s && flag j)) (off j h) ∙ and_false (ltb j n) ∙ ap (λ s. s && flag j) (sym (off j h))
+]
+  where
+    and_false : (b : Bool) → (b && false) ≡ false
+    and_false true = refl
+    and_false false = refl

@@ -1,12 +1,16 @@
-// Eight words of a row as a vector.
+// Eight words of a row as a vector, and what a mask lets through of what is computed of them.
 
-ghost use Rattle.std.specs.Prelude.{◌≡◌, ◌==◌, ◌+◌, ◌-◌, ◌<◌, ◌≤◌, ℕ, cond, length, slice_index_or};
+ghost use Rattle.std.specs.Prelude.{◌≡◌, ◌==◌, ◌+◌, ◌*◌, ◌-◌, ◌<◌, ◌≤◌, ℕ, cond, length, slice_index_or};
 ghost use Rattle.std.specs.Int.{bit_at};
 ghost use Rattle.vk_lanes.specs.Words.{word_in};
+ghost use Rattle.vk_lanes.specs.Masks.{is_on, lane_count};
 ghost use Rattle.vk_lanes.specs.Inner.Blocks.{WritesFrom};
+ghost use Rattle.vk_lanes.specs.Inner.Patterns.{pattern};
 
+use crate::mask::LaneMask;
+use crate::patterns::{Lanewise, computed8};
 use std::simd::prelude::*;
-use vk_types::Word;
+use vk_types::{Ty, Word};
 
 /// The eight words from place `at` on.
 pub fn load(row: &[Word], at: usize) -> u64x8
@@ -37,8 +41,8 @@ pub fn store(words: u64x8, row: &mut [Word], at: usize)
     }
 }
 
-/// The new words in the lanes whose bits are set, and the old ones in the others.
-pub fn chosen8(lanes: u8, new: u64x8, old: u64x8) -> u64x8
+// The new words in the lanes whose bits are set, and the old ones in the others.
+fn chosen8(lanes: u8, new: u64x8, old: u64x8) -> u64x8
     requires new { length new ≡ 8 }
     requires old { length old ≡ 8 }
     ensures len { length result ≡ 8 }
@@ -46,4 +50,19 @@ pub fn chosen8(lanes: u8, new: u64x8, old: u64x8) -> u64x8
 {
     let bits = u64x8::splat(u64::from(lanes)) & u64x8::from_array([1, 2, 4, 8, 16, 32, 64, 128]);
     bits.simd_ne(u64x8::splat(0)).select(new, old)
+}
+
+/// What is computed of eight lanes from 8 k on in those that are on, and the old words in the others.
+pub fn step(op: Lanewise, t: Ty, mask: &LaneMask, k: usize, x: u64x8, y: u64x8, old: u64x8) -> u64x8
+    requires room { 8 * k + 8 ≤ lane_count mask.now }
+    requires left { length x ≡ 8 }
+    requires right { length y ≡ 8 }
+    requires old { length old ≡ 8 }
+    ensures len { length result ≡ 8 }
+    ensures lanes {
+        (i : ℕ) → i < 8 → slice_index_or result i 0
+            ≡ cond (is_on mask.now (8 * k + i)) (pattern op t (slice_index_or x i 0) (slice_index_or y i 0)) (slice_index_or old i 0)
+    }
+{
+    chosen8(mask.block(k), computed8(op, t, x, y), old)
 }

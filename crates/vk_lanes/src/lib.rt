@@ -2,6 +2,7 @@
 #![tactic(auto)]
 
 mod blocks;
+pub mod kernels;
 pub mod mask;
 pub mod masks;
 mod patterns;

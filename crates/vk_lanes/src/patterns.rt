@@ -4,10 +4,10 @@ ghost use Rattle.std.specs.Prelude.{◌≡◌, ◌<◌, ◌==◌, ◌-◌, ◌^�
 ghost use Rattle.std.specs.Simd.Lanes.{zip2};
 ghost use lib.Lanes.{Each1};
 ghost use Rattle.vk_types.specs.Numbers.{width_of};
-ghost use Rattle.vk_lanes.specs.Inner.Patterns.{bias_of, biased, count_of, extended, half_of, pattern};
+ghost use Rattle.vk_lanes.specs.Inner.Patterns.{bias_of, biased, count_of, extended, half_of, lanewise1_of, lanewise_of, pattern};
 
 use std::simd::prelude::*;
-use vk_types::Ty;
+use vk_types::{Op1, Op2, Ty};
 
 /// What is computed of two patterns without a division: an operator, the extension of the first one, or the first one as it is.
 #[derive(Clone, Copy)]
@@ -28,6 +28,39 @@ pub enum Lanewise {
     Not,
     Extend,
     Copy,
+}
+
+impl Lanewise {
+    /// How a binary operator is computed; none for quotients and remainders.
+    pub fn binary(op: Op2) -> Option<Lanewise>
+        ensures { result ≡ lanewise_of op }
+    {
+        match op {
+            Op2::Add => Some(Lanewise::Add),
+            Op2::Sub => Some(Lanewise::Sub),
+            Op2::Mul => Some(Lanewise::Mul),
+            Op2::Div | Op2::Rem => None,
+            Op2::And => Some(Lanewise::And),
+            Op2::Or => Some(Lanewise::Or),
+            Op2::Xor => Some(Lanewise::Xor),
+            Op2::Shl => Some(Lanewise::Shl),
+            Op2::Shr => Some(Lanewise::Shr),
+            Op2::Eq => Some(Lanewise::Eq),
+            Op2::Ne => Some(Lanewise::Ne),
+            Op2::Lt => Some(Lanewise::Lt),
+            Op2::Le => Some(Lanewise::Le),
+        }
+    }
+
+    /// How a unary operator is computed of the first pattern.
+    pub fn unary(op: Op1) -> Lanewise
+        ensures { result ≡ lanewise1_of op }
+    {
+        match op {
+            Op1::Neg => Lanewise::Neg,
+            Op1::Not => Lanewise::Not,
+        }
+    }
 }
 
 // Half of the patterns of a signed type.

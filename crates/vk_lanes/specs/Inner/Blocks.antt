@@ -1,6 +1,8 @@
 -- Which words of a row a part of the work has written.
-use Rattle.std.specs.Prelude.{ℕ, ◌+◌, ◌-◌, ◌≡◌, Bool, ◌&&◌, cond, List, nat_le, nat_lt, slice_index_or}
+use Rattle.std.specs.Prelude.{ℕ, ◌+◌, ◌-◌, ◌≡◌, Bool, ◌&&◌, ◌||◌, ◌==◌, cond, List, nat_le, nat_lt, slice_index_or}
 use Rattle.vk_types.specs.declared.types.Word.{Word}
+use Rattle.vk_lanes.specs.declared.mask.LaneMask.{LaneMask}
+use Rattle.vk_lanes.specs.Masks.{is_on}
 use Rattle.vk_lanes.specs.Words.{word_in}
 
 abbrev pub is_between : ℕ → ℕ → ℕ → Bool
@@ -9,3 +11,14 @@ is_between low high i = nat_le low i && nat_lt i high
 -- place i has `value i` from low on and below high, and what it had elsewhere
 abbrev pub WritesFrom : ℕ → ℕ → (ℕ → ℕ) → List Word → List Word → Type 0
 WritesFrom low high value old new = (i : ℕ) → word_in new i ≡ cond (is_between low high i) (value i) (word_in old i)
+
+-- the same in the lanes that are on
+abbrev pub chosen : (ℕ → Bool) → (ℕ → ℕ) → List Word → ℕ → ℕ
+chosen on value old i = cond (on i) (value i) (word_in old i)
+
+abbrev pub WritesOn : ℕ → ℕ → (ℕ → Bool) → (ℕ → ℕ) → List Word → List Word → Type 0
+WritesOn low high on value old new = WritesFrom low high (chosen on value old) old new
+
+-- a lane is on as well, where the flag is set
+abbrev pub Marks : ℕ → Bool → LaneMask → LaneMask → Type 0
+Marks lane flag old new = (j : ℕ) → is_on new j ≡ (is_on old j || (j == lane && flag))

@@ -1,0 +1,15 @@
+use Rattle.vk_lanes.specs.declared.patterns.Lanewise.TheVariants.{Extend}
+use Rattle.vk_lanes.specs.Kernels.{convert_word}
+use Rattle.vk_lanes.specs.Masks.{is_on}
+use Rattle.vk_lanes.specs.Words.{word_in}
+use Rattle.vk_lanes.specs.Inner.Patterns.{pattern}
+use Rattle.vk_lanes.proofs.Operators.{computes_conversion}
+use Rattle.vk_lanes.proofs.Written.{writes_same}
+use Rattle.vk_lanes.proofs.kernels.lanes_convert.Goals as goal
+
+pub returns : goal.returns
+returns c =
+    writes_same (is_on c.args.mask.now) (λ i. pattern Extend c.args.to (word_in c.args.a.now i) (word_in c.args.a.now i))
+    (λ i. convert_word c.args.from c.args.to (word_in c.args.a.now i)) c.args.d.now c.compute.new.d
+    (λ i h. computes_conversion c.args.from c.args.to (word_in c.args.a.now i) (word_in c.args.a.now i) (c.requires.words i h).0)
+    c.compute.ensures
