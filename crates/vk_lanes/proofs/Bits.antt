@@ -1,7 +1,9 @@
 -- Lanes as bits of bytes.
-use Rattle.std.proofs.Common.{◌≡◌, ℕ, zero, suc, ◌+◌, ◌-◌, ◌*◌, ◌/◌, ◌%◌, ◌^◌, ◌<◌, ◌≤◌, ◌≢◌, ◌⊎◌, inl, inr, min, max, List, [], ◌∷◌, length, get_or, set, Bool, true, false, not, ◌&&◌, ◌||◌, cond, ltb, eqb, bit_and, bit_or, bit_xor, replicate, ap, ap₂, sym, subst, ◌∙◌, refl, arith, w8}
-use Rattle.std.proofs.lemmas.Nat.Bits.{bit_at-lt, bit_at-zero, bit_at_and, bit_at_clear_other, bit_at_clear_same, bit_at_set_other, bit_at_set_same, bit_at_or, bit_at_xor, shr_and_one}
-use Rattle.std.proofs.lemmas.Simd.{get_or-zip2}
+use Rattle.std.proofs.Common.{◌≡◌, ℕ, zero, suc, ◌+◌, ◌-◌, ◌*◌, ◌/◌, ◌%◌, ◌^◌, ◌<◌, ◌≤◌, ◌≢◌, ◌⊎◌, inl, inr, min, max, List, [], ◌∷◌, length, get_or, set, Bool, true, false, not, ◌&&◌, ◌||◌, cond, ltb, eqb, bit_and, bit_or, bit_xor, replicate, ap, ap₂, sym, subst, ◌∙◌, refl, arith, map, lit≤, w8, w64}
+use Rattle.std.proofs.lemmas.Nat.Bits.{bit_at-lt, bit_at-zero, bit_at_and, bit_at_clear_other, bit_at_clear_same, bit_at_not, bit_at_set_other, bit_at_set_same, bit_at_or, bit_at_xor, shr_and_one}
+use Rattle.std.proofs.lemmas.Simd.{bit_mask_l, bitmask_splat, get_or-zip2, mask_l-lt}
+use Rattle.std.proofs.lemmas.List.{get_or-map, length-map}
+use lib.Lanes.{mask_l, top}
 use Rattle.std.proofs.lemmas.Bool.{cases_lt, eq-eqb}
 use Rattle.std.proofs.lemmas.Bool.Decides.{eqb_tells, nat_tests}
 use Rattle.std.proofs.lemmas.List.{get_or-set_same, get_or-set_other}
@@ -114,7 +116,7 @@ written_block m r k byte lm hk er bytes i = elim (eqb_tells (i / 8) k) [
 pub not_eqb : (a b : ℕ) → a ≢ b → eqb a b ≡ false
 not_eqb a b ne = elim (eqb_tells a b) [ inl e ↦ absurd (ne e.1) | inr e ↦ e.0 ]
 
-one_on : (on : Bool) → eqb (cond on 1 0) 1 ≡ on
+pub one_on : (on : Bool) → eqb (cond on 1 0) 1 ≡ on
 one_on true = refl
 one_on false = refl
 
@@ -157,3 +159,38 @@ bit_cleared byte place h i l = elim (eqb_tells i place) [
   | inl here ↦ ap (bit_at (bit_and byte (bit_not w8 (1 * 2 ^ place % 256)))) here.1 ∙ bit_at_clear_same w8 byte place h ∙ ap (λ t. cond t 0 (bit_at byte i)) (sym here.0)
   | inr there ↦ bit_at_clear_other w8 byte place h i l there.1 ∙ ap (λ t. cond t 0 (bit_at byte i)) (sym there.0)
 ]
+
+-- the bits of one byte where those of another are set, else those of a third
+not_bit : (on i : ℕ) → on < 256 → i < 8 → eqb (bit_at (bit_not w8 on) i) 1 ≡ not (eqb (bit_at on i) 1)
+not_bit on i h l = ap (λ b. eqb b 1) (bit_at_not w8 on i h l) ∙ elim (two (bit_at on i) (bit_at-lt on i)) [
+  | inl e ↦ ap (λ b. eqb (1 - b) 1) e ∙ ap (λ b. not (eqb b 1)) (sym e)
+  | inr e ↦ ap (λ b. eqb (1 - b) 1) e ∙ ap (λ b. not (eqb b 1)) (sym e)
+]
+
+by_flag : (new on old : Bool) → ((new && on) || (old && not on)) ≡ cond on new old
+by_flag true true true = refl
+by_flag true true false = refl
+by_flag true false true = refl
+by_flag true false false = refl
+by_flag false true true = refl
+by_flag false true false = refl
+by_flag false false true = refl
+by_flag false false false = refl
+
+pub chosen_bits : (on new old : ℕ) → on < 256 → (i : ℕ) → i < 8 →
+    eqb (bit_at (bit_or (bit_and new on) (bit_and old (bit_not w8 on))) i) 1 ≡ cond (eqb (bit_at on i) 1) (eqb (bit_at new i) 1) (eqb (bit_at old i) 1)
+chosen_bits on new old h i l =
+    or_bits (bit_and new on) (bit_and old (bit_not w8 on)) i
+    ∙ ap₂ (λ a b. a || b) (and_bits new on i) (and_bits old (bit_not w8 on) i ∙ ap (λ b. eqb (bit_at old i) 1 && b) (not_bit on i h l))
+    ∙ by_flag (eqb (bit_at new i) 1) (eqb (bit_at on i) 1) (eqb (bit_at old i) 1)
+
+-- which words of a vector are not 0, as a number
+pub nonzero_mask : (xs : List ℕ) → length xs ≡ 8 →
+    mask_l (map (top 63) (zip2 (λ x y. cond (not (eqb x y)) (2 ^ 64 - 1) 0) xs (0 ∷ 0 ∷ 0 ∷ 0 ∷ 0 ∷ 0 ∷ 0 ∷ 0 ∷ []))) % 2 ^ 64 ≡ mask_l (map (λ x. not (eqb x 0)) xs)
+nonzero_mask xs n = bitmask_splat w64 (λ x y. not (eqb x y)) xs 8 0 n (lit≤ tt)
+
+pub nonzero-lt : (xs : List ℕ) → length xs ≡ 8 → mask_l (map (λ x. not (eqb x 0)) xs) < 2 ^ 8
+nonzero-lt xs n = subst (λ k. mask_l (map (λ x. not (eqb x 0)) xs) < 2 ^ k) (length-map xs (λ x. not (eqb x 0)) ∙ n) (mask_l-lt (map (λ x. not (eqb x 0)) xs))
+
+pub nonzero_bit : (xs : List ℕ) → length xs ≡ 8 → (i : ℕ) → i < 8 → eqb (bit_at (mask_l (map (λ x. not (eqb x 0)) xs)) i) 1 ≡ not (eqb (get_or xs i 0) 0)
+nonzero_bit xs n i l = ap (λ b. eqb b 1) (bit_mask_l (map (λ x. not (eqb x 0)) xs) i) ∙ one_on (get_or (map (λ x. not (eqb x 0)) xs) i false) ∙ get_or-map (λ x. not (eqb x 0)) xs i 0 false (omega arith)

@@ -1,4 +1,5 @@
 pub mod Bits
+pub mod InRows
 pub mod Operators
 pub mod Vectors
 pub mod Written

@@ -11,7 +11,7 @@ use Rattle.std.specs.Simd.Lanes.{zip2}
 use lib.Lanes.{sel_l, top}
 use Rattle.vk_types.specs.declared.types.Word.{Word}
 use Rattle.vk_lanes.specs.Words.{word_in}
-use Rattle.vk_lanes.specs.Inner.Blocks.{Marks, WritesFrom, WritesOn, chosen, is_between}
+use Rattle.vk_lanes.specs.Inner.Blocks.{Marks, SetsOn, WritesFrom, WritesOn, chosen, is_between, picked}
 use Rattle.vk_lanes.specs.declared.mask.LaneMask.{LaneMask}
 use Rattle.vk_lanes.specs.Masks.{is_on}
 use Rattle.vk_lanes.specs.Kernels.{Writes}
@@ -98,34 +98,45 @@ writes_more low n value old row w under inside e before i = elim (eqb_tells i n)
 same_test : (low mid high i : ℕ) → i < mid → i < high → is_between low mid i ≡ is_between low high i
 same_test low mid high i l h = ap (λ b. leb low i && b) (let a : ltb i mid ≡ true = grind (arith, nat_tests) in let b : ltb i high ≡ true = grind (arith, nat_tests) in a ∙ sym b)
 
-pub untouched : (low high : ℕ) (value : ℕ → ℕ) (old new : List Word) → WritesFrom low high value old new → (i : ℕ) → (i < low) ⊎ (high ≤ i) → word_in new i ≡ word_in old i
-untouched low high value old new w i o = w i ∙ ap (λ t. cond t (value i) (word_in old i)) (outside low high i o)
+pub untouched : {X : Type 0} (low high : ℕ) (value old new : ℕ → X) → ((i : ℕ) → new i ≡ cond (is_between low high i) (value i) (old i)) → (i : ℕ) → (i < low) ⊎ (high ≤ i) → new i ≡ old i
+untouched low high value old new w i o = w i ∙ ap (λ t. cond t (value i) (old i)) (outside low high i o)
 
-touched : (low high : ℕ) (value : ℕ → ℕ) (old new : List Word) → WritesFrom low high value old new → (i : ℕ) → low ≤ i → i < high → word_in new i ≡ value i
-touched low high value old new w i l h = w i ∙ ap (λ t. cond t (value i) (word_in old i)) (between low high i l h)
+pub touched : {X : Type 0} (low high : ℕ) (value old new : ℕ → X) → ((i : ℕ) → new i ≡ cond (is_between low high i) (value i) (old i)) → (i : ℕ) → low ≤ i → i < high → new i ≡ value i
+touched low high value old new w i l h = w i ∙ ap (λ t. cond t (value i) (old i)) (between low high i l h)
 
-pub joins : (low mid high : ℕ) (on : ℕ → Bool) (value value' : ℕ → ℕ) (a b c : List Word) → low ≤ mid → mid ≤ high → WritesOn low mid on value a b → WritesOn mid high on value' b c →
-    ((i : ℕ) → mid ≤ i → i < high → value' i ≡ value i) → WritesOn low high on value a c
-joins low mid high on value value' a b c lm mh first second same i = elim (cases_lt i mid) [
-  | inl below ↦ untouched mid high (chosen on value' b) b c second i (inl below) ∙ first i ∙ ap (λ t. cond t (chosen on value a i) (word_in a i)) (same_test low mid high i below (omega arith))
+pub joined : {X : Type 0} (low mid high : ℕ) (value value' a b c : ℕ → X) → low ≤ mid → mid ≤ high →
+    ((i : ℕ) → b i ≡ cond (is_between low mid i) (value i) (a i)) → ((i : ℕ) → c i ≡ cond (is_between mid high i) (value' i) (b i)) →
+    ((i : ℕ) → mid ≤ i → i < high → value' i ≡ value i) → (i : ℕ) → c i ≡ cond (is_between low high i) (value i) (a i)
+joined low mid high value value' a b c lm mh first second same i = elim (cases_lt i mid) [
+  | inl below ↦ untouched mid high value' b c second i (inl below) ∙ first i ∙ ap (λ t. cond t (value i) (a i)) (same_test low mid high i below (omega arith))
   | inr above ↦ elim (cases_lt i high) [
-    | inl inside ↦ touched mid high (chosen on value' b) b c second i above inside
-        ∙ ap₂ (λ v w. cond (on i) v w) (same i above inside) (untouched low mid (chosen on value a) a b first i (inr above))
-        ∙ ap (λ t. cond t (chosen on value a i) (word_in a i)) (sym (between low high i (omega arith) inside))
-    | inr past ↦ untouched mid high (chosen on value' b) b c second i (inr past) ∙ untouched low mid (chosen on value a) a b first i (inr above)
-        ∙ ap (λ t. cond t (chosen on value a i) (word_in a i)) (sym (outside low high i (inr past)))
+    | inl inside ↦ touched mid high value' b c second i above inside ∙ same i above inside ∙ ap (λ t. cond t (value i) (a i)) (sym (between low high i (omega arith) inside))
+    | inr past ↦ untouched mid high value' b c second i (inr past) ∙ untouched low mid value a b first i (inr above) ∙ ap (λ t. cond t (value i) (a i)) (sym (outside low high i (inr past)))
   ]
 ]
+
+-- the words of lanes that are on
+pub joins : (low mid high : ℕ) (on : ℕ → Bool) (value value' : ℕ → ℕ) (a b c : List Word) → low ≤ mid → mid ≤ high → WritesOn low mid on value a b → WritesOn mid high on value' b c →
+    ((i : ℕ) → mid ≤ i → i < high → value' i ≡ value i) → WritesOn low high on value a c
+joins low mid high on value value' a b c lm mh first second same =
+    joined low mid high (chosen on value a) (chosen on value' b) (word_in a) (word_in b) (word_in c) lm mh first second
+    (λ i l h. ap₂ (λ v w. cond (on i) v w) (same i l h) (untouched low mid (chosen on value a) (word_in a) (word_in b) first i (inr l)))
+
+-- the lanes of a mask
+pub sets_more : (low mid high : ℕ) (mask : LaneMask) (words : List Word) (a b c : LaneMask) → low ≤ mid → mid ≤ high → SetsOn low mid mask words a b → SetsOn mid high mask words b c → SetsOn low high mask words a c
+sets_more low mid high mask words a b c lm mh first second =
+    joined low mid high (picked mask words a) (picked mask words b) (is_on a) (is_on b) (is_on c) lm mh first second
+    (λ i l h. ap (λ t. cond (is_on mask i) (not (eqb (word_in words i) 0)) t) (untouched low mid (picked mask words a) (is_on a) (is_on b) first i (inr l)))
 
 -- all lanes of a mask
 pub writes_all : (n : ℕ) (on : ℕ → Bool) (value : ℕ → ℕ) (old new : List Word) → ((i : ℕ) → n ≤ i → on i ≡ false) → WritesOn 0 n on value old new → Writes on value old new
 writes_all n on value old new off w i = elim (cases_lt i n) [
-  | inl inside ↦ touched 0 n (chosen on value old) old new w i (omega arith) inside
-  | inr past ↦ untouched 0 n (chosen on value old) old new w i (inr past) ∙ ap (λ t. cond t (value i) (word_in old i)) (sym (off i past))
+  | inl inside ↦ touched 0 n (chosen on value old) (word_in old) (word_in new) w i (omega arith) inside
+  | inr past ↦ untouched 0 n (chosen on value old) (word_in old) (word_in new) w i (inr past) ∙ ap (λ t. cond t (value i) (word_in old i)) (sym (off i past))
 ]
 
 -- only what is written in lanes that are on counts
-bool_cases : (b : Bool) → (b ≡ true) ⊎ (b ≡ false)
+pub bool_cases : (b : Bool) → (b ≡ true) ⊎ (b ≡ false)
 bool_cases true = inl refl
 bool_cases false = inr refl
 
@@ -161,3 +172,13 @@ marks_all on flag n mask off marks j = marks j ∙ elim (cases_lt j n) [
     and_false : (b : Bool) → (b && false) ≡ false
     and_false true = refl
     and_false false = refl
+
+-- nothing is set at first, and in the end all lanes that are on
+pub sets_none : (mask : LaneMask) (words : List Word) (m : LaneMask) → SetsOn 0 0 mask words m m
+sets_none mask words m i = ap (λ t. cond t (picked mask words m i) (is_on m i)) (sym (outside 0 0 i (inr (omega arith))))
+
+pub sets_all : (n : ℕ) (mask : LaneMask) (words : List Word) (old new : LaneMask) → ((i : ℕ) → n ≤ i → is_on mask i ≡ false) → SetsOn 0 n mask words old new → (i : ℕ) → is_on new i ≡ picked mask words old i
+sets_all n mask words old new off w i = elim (cases_lt i n) [
+  | inl inside ↦ touched 0 n (picked mask words old) (is_on old) (is_on new) w i (omega arith) inside
+  | inr past ↦ untouched 0 n (picked mask words old) (is_on old) (is_on new) w i (inr past) ∙ ap (λ t. cond t (not (eqb (word_in words i) 0)) (is_on old i)) (sym (off i past))
+]

@@ -1,5 +1,5 @@
 -- Which words of a row a part of the work has written.
-use Rattle.std.specs.Prelude.{ℕ, ◌+◌, ◌-◌, ◌≡◌, Bool, ◌&&◌, ◌||◌, ◌==◌, cond, List, nat_le, nat_lt, slice_index_or}
+use Rattle.std.specs.Prelude.{ℕ, ◌+◌, ◌-◌, ◌≡◌, Bool, not, ◌&&◌, ◌||◌, ◌==◌, cond, List, nat_le, nat_lt, slice_index_or}
 use Rattle.vk_types.specs.declared.types.Word.{Word}
 use Rattle.vk_lanes.specs.declared.mask.LaneMask.{LaneMask}
 use Rattle.vk_lanes.specs.Masks.{is_on}
@@ -22,3 +22,10 @@ WritesOn low high on value old new = WritesFrom low high (chosen on value old) o
 -- a lane is on as well, where the flag is set
 abbrev pub Marks : ℕ → Bool → LaneMask → LaneMask → Type 0
 Marks lane flag old new = (j : ℕ) → is_on new j ≡ (is_on old j || (j == lane && flag))
+
+-- lanes from low on and below high are set to whether their words are not 0, where the mask is on
+abbrev pub picked : LaneMask → List Word → LaneMask → ℕ → Bool
+picked mask a old i = cond (is_on mask i) (not (word_in a i == 0)) (is_on old i)
+
+abbrev pub SetsOn : ℕ → ℕ → LaneMask → List Word → LaneMask → LaneMask → Type 0
+SetsOn low high mask a old new = (i : ℕ) → is_on new i ≡ cond (is_between low high i) (picked mask a old i) (is_on old i)
