@@ -129,15 +129,19 @@ written_lane m r lane byte on lm inside er bytes bits i = elim (eqb_tells i lane
   where
     below : i % 8 < 8
     below = omega arith
+
     bit : eqb (bit_at byte (i % 8)) 1 ≡ eqb (cond (eqb (i % 8) (lane % 8)) (cond on 1 0) (bit_at (get_or m.bytes (lane / 8) 0) (i % 8))) 1
     bit = ap (λ b. eqb b 1) (bits (i % 8) below)
+
     at : i ≡ lane → is_on r i ≡ on
     at e = written_here m r (lane / 8) byte lm er bytes i (omega arith) (ap (λ n. n / 8) e) ∙ bit
-      ∙ ap (λ t. eqb (cond t (cond on 1 0) (bit_at (get_or m.bytes (lane / 8) 0) (i % 8))) 1) (eq-eqb (i % 8) (lane % 8) (ap (λ n. n % 8) e)) ∙ one_on on
+        ∙ ap (λ t. eqb (cond t (cond on 1 0) (bit_at (get_or m.bytes (lane / 8) 0) (i % 8))) 1) (eq-eqb (i % 8) (lane % 8) (ap (λ n. n % 8) e)) ∙ one_on on
+
     in_byte : i < m.lanes → i / 8 ≡ lane / 8 → i % 8 ≢ lane % 8 → is_on r i ≡ is_on m i
     in_byte low e ne = written_here m r (lane / 8) byte lm er bytes i low e ∙ bit
-      ∙ ap (λ t. eqb (cond t (cond on 1 0) (bit_at (get_or m.bytes (lane / 8) 0) (i % 8))) 1) (not_eqb (i % 8) (lane % 8) ne)
-      ∙ ap (λ k. eqb (bit_at (get_or m.bytes k 0) (i % 8)) 1) (sym e) ∙ sym (on_read m i low)
+        ∙ ap (λ t. eqb (cond t (cond on 1 0) (bit_at (get_or m.bytes (lane / 8) 0) (i % 8))) 1) (not_eqb (i % 8) (lane % 8) ne)
+        ∙ ap (λ k. eqb (bit_at (get_or m.bytes k 0) (i % 8)) 1) (sym e) ∙ sym (on_read m i low)
+
     elsewhere : i ≢ lane → is_on r i ≡ is_on m i
     elsewhere ne = elim (cases_lt i m.lanes) [
       | inl low ↦ elim (eqb_tells (i / 8) (lane / 8)) [

@@ -1,5 +1,5 @@
 -- What the code computes on 64-bit patterns is the pattern of what the definitions of operators give on numbers.
-use Rattle.std.proofs.Common.{◌≡◌, ℕ, zero, suc, ◌+◌, ◌-◌, ◌*◌, ◌/◌, ◌%◌, ◌^◌, ◌<◌, ◌≤◌, ◌⊎◌, inl, inr, Bool, true, false, not, cond, ltb, leb, eqb, max, min, IfSome,  bit_and, bit_or, bit_xor, ℤ, pos, negsuc, ◌+ℤ◌, ◌-ℤ◌, ◌*ℤ◌, neg_ℤ, Ok, w8, w16, w32, w64, ap, ap₂, sym, subst, ◌∙◌, refl, arith, lit<}
+use Rattle.std.proofs.Common.{◌≡◌, ℕ, zero, suc, ◌+◌, ◌-◌, ◌*◌, ◌/◌, ◌%◌, ◌^◌, ◌<◌, ◌≤◌, ◌⊎◌, inl, inr, Bool, true, false, not, cond, ltb, leb, eqb, max, min, IfSome, bit_and, bit_or, bit_xor, ℤ, pos, negsuc, ◌+ℤ◌, ◌-ℤ◌, ◌*ℤ◌, neg_ℤ, Ok, w8, w16, w32, w64, ap, ap₂, sym, subst, ◌∙◌, refl, arith, lit<}
 use Rattle.std.proofs.Math.Nat.{add-mul-div_right, div-add-mod, div-le_self, mod-eq_of_lt, mod-lt, zero-div}
 use Rattle.std.proofs.Math.Pow.{pow_pos}
 use Rattle.std.proofs.lemmas.Nat.{and_le_r, and_mask, div-mul-add, div_below, pow-add}
@@ -159,11 +159,11 @@ compared : (test : ℤ → ℤ → Bool) (by : ℕ → ℕ → Bool) →
     (a b : ℕ) → a < 2 ^ 64 → b < 2 ^ 64 → Compare test by a b
 compared test by pp pn np nn a b ha hb = signed_cases (Compare test by a b) a ha
     (λ la ea. signed_cases (Compare test by a b) b hb
-      (λ lb eb. ap₂ test ea eb ∙ pp a b la lb ∙ sym (ap₂ by (moved_up a la) (moved_up b lb)))
-      (λ n ln wb eb. ap₂ test ea eb ∙ pn a n la ln ∙ sym (ap₂ by (moved_up a la) (ap (λ b. wrap_add b (2 ^ 63)) wb ∙ moved_down n ln))))
+    (λ lb eb. ap₂ test ea eb ∙ pp a b la lb ∙ sym (ap₂ by (moved_up a la) (moved_up b lb)))
+    (λ n ln wb eb. ap₂ test ea eb ∙ pn a n la ln ∙ sym (ap₂ by (moved_up a la) (ap (λ b. wrap_add b (2 ^ 63)) wb ∙ moved_down n ln))))
     (λ m lm wa ea. signed_cases (Compare test by a b) b hb
-      (λ lb eb. ap₂ test ea eb ∙ np m b lm lb ∙ sym (ap₂ by (ap (λ a. wrap_add a (2 ^ 63)) wa ∙ moved_down m lm) (moved_up b lb)))
-      (λ n ln wb eb. ap₂ test ea eb ∙ nn m n lm ln ∙ sym (ap₂ by (ap (λ a. wrap_add a (2 ^ 63)) wa ∙ moved_down m lm) (ap (λ b. wrap_add b (2 ^ 63)) wb ∙ moved_down n ln))))
+    (λ lb eb. ap₂ test ea eb ∙ np m b lm lb ∙ sym (ap₂ by (ap (λ a. wrap_add a (2 ^ 63)) wa ∙ moved_down m lm) (moved_up b lb)))
+    (λ n ln wb eb. ap₂ test ea eb ∙ nn m n lm ln ∙ sym (ap₂ by (ap (λ a. wrap_add a (2 ^ 63)) wa ∙ moved_down m lm) (ap (λ b. wrap_add b (2 ^ 63)) wb ∙ moved_down n ln))))
 
 ltb_same : (a b c d : ℕ) → (a < b → c < d) → (c < d → a < b) → ltb a b ≡ ltb c d
 ltb_same a b c d f g = same_from_decides (ltb a b) (ltb c d) (Decides-ltb a b) (Decides-like (ltb c d) g f (Decides-ltb c d))
@@ -284,8 +284,10 @@ below_multiple n d e h l =
   where
     multiplied : (x q d : ℕ) → (x + suc q) * d ≡ x * d + d * q + d
     multiplied x q d = grind arith
+
     products : (x q e d : ℕ) → x + suc q ≡ e → e * d ≡ x * d + d * q + d
     products x q e d h = ap (λ e. e * d) (sym h) ∙ multiplied x q d
+
     apart : (ed xd dq d r n : ℕ) → ed ≡ xd + dq + d → dq + r ≡ n → r < d → ed - suc n ≡ xd + (d - suc r)
     apart ed xd dq d r n a b c = omega arith
 
@@ -317,7 +319,7 @@ shifted_signed : (x k : ℕ) → x < 2 ^ 64 → k < 64 → Shifted x (2 ^ k)
 shifted_signed x k h l = signed_cases (Shifted x (2 ^ k)) x h
     (λ low e. ap (λ a. wrap_sub (a / 2 ^ k) (2 ^ 63 / 2 ^ k)) (moved_up x low) ∙ shifted_up x (2 ^ k) (2 ^ (63 - k)) (pow_pos k) (half_power k l) low ∙ ap (λ z. word_of (int_div_euclid z (pos (2 ^ k)))) (sym e))
     (λ n low w e. ap (λ a. wrap_sub (a / 2 ^ k) (2 ^ 63 / 2 ^ k)) (ap (λ x. wrap_add x (2 ^ 63)) w ∙ moved_down n low) ∙ shifted_down n (2 ^ k) (2 ^ (63 - k)) (pow_pos k) (half_power k l) low
-      ∙ ap (λ z. word_of (int_div_euclid z (pos (2 ^ k)))) (sym e))
+    ∙ ap (λ z. word_of (int_div_euclid z (pos (2 ^ k)))) (sym e))
 
 shifted_unsigned : (x k : ℕ) → x < 2 ^ 64 → wrap_sub (wrap_add x 0 / 2 ^ k) (0 / 2 ^ k) ≡ x / 2 ^ k
 shifted_unsigned x k h =

@@ -65,7 +65,7 @@ pub extended_eight : (h m : ℕ) (xs : List ℕ) → length xs ≡ 8 →
 extended_eight h m xs n =
     eight
     (λ xs. zip2 wrap_sub (zip2 bit_and (zip2 wrap_add xs (h ∷ h ∷ h ∷ h ∷ h ∷ h ∷ h ∷ h ∷ [])) (m ∷ m ∷ m ∷ m ∷ m ∷ m ∷ m ∷ m ∷ [])) (h ∷ h ∷ h ∷ h ∷ h ∷ h ∷ h ∷ h ∷ [])
-      ≡ map (λ x. wrap_sub (bit_and (wrap_add x h) m) h) xs)
+    ≡ map (λ x. wrap_sub (bit_and (wrap_add x h) m) h) xs)
     (λ a b c d e f g h. refl) xs n
 
 -- only the second or the first of two vectors is used
@@ -112,7 +112,7 @@ pub shifted_right : (f g : ℕ → ℕ) (k : ℕ) (xs ys : List ℕ) → length 
 shifted_right f g k xs ys m n =
     eight (λ xs. shifted_made f g k xs ys ≡ shifted_wanted f g k xs ys)
     (λ a b c d e v w h. eight (λ ys. shifted_made f g k (a ∷ b ∷ c ∷ d ∷ e ∷ v ∷ w ∷ h ∷ []) ys ≡ shifted_wanted f g k (a ∷ b ∷ c ∷ d ∷ e ∷ v ∷ w ∷ h ∷ []) ys)
-      (λ p q r s t u y z. refl) ys n) xs m
+    (λ p q r s t u y z. refl) ys n) xs m
 
 abbrev selected : (ℕ → ℕ → Bool) → List ℕ → List ℕ → List ℕ
 selected t xs ys = sel_l {A = ℕ} (zip2 t xs ys) (1 ∷ 1 ∷ 1 ∷ 1 ∷ 1 ∷ 1 ∷ 1 ∷ 1 ∷ []) (0 ∷ 0 ∷ 0 ∷ 0 ∷ 0 ∷ 0 ∷ 0 ∷ 0 ∷ [])
@@ -125,7 +125,7 @@ truth_eight t xs ys m n =
     ap (λ (flags : List Bool). sel_l {A = ℕ} flags (1 ∷ 1 ∷ 1 ∷ 1 ∷ 1 ∷ 1 ∷ 1 ∷ 1 ∷ []) (0 ∷ 0 ∷ 0 ∷ 0 ∷ 0 ∷ 0 ∷ 0 ∷ 0 ∷ [])) (tops_compared w64 t xs ys)
     ∙ eight (λ xs. selected t xs ys ≡ zip2 (λ x y. cond (t x y) 1 0) xs ys)
     (λ a b c d e f g h. eight (λ ys. selected t (a ∷ b ∷ c ∷ d ∷ e ∷ f ∷ g ∷ h ∷ []) ys ≡ zip2 (λ x y. cond (t x y) 1 0) (a ∷ b ∷ c ∷ d ∷ e ∷ f ∷ g ∷ h ∷ []) ys)
-      (λ p q r s u v y z. refl) ys n) xs m
+    (λ p q r s u v y z. refl) ys n) xs m
 
 pub of_op : (op op' : Lanewise) (t : Ty) (x y r : List ℕ) → op ≡ op' → r ≡ zip2 (pattern op' t) x y → r ≡ zip2 (pattern op t) x y
 of_op op op' t x y r e h = h ∙ ap (λ op. zip2 (pattern op t) x y) (sym e)

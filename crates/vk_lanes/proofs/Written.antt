@@ -38,6 +38,7 @@ flag b i = ap (λ x. not (eqb x 0)) (and_pow b i) ∙ elim (two (bit_at b i) (bi
   where
     none : not (eqb (0 * 2 ^ i) 0) ≡ false
     none = let e : 0 * 2 ^ i ≡ 0 = omega arith in ap (λ x. not (eqb x 0)) e
+
     positive : 1 * 2 ^ i ≢ 0
     positive = let h : 0 < 2 ^ i = pow_pos i in λ e. omega arith
 
@@ -92,7 +93,7 @@ writes_more low n value old row w under inside e before i = elim (eqb_tells i n)
   where
     at : i ≡ n → word_in (set row n (record { 0 = w })) i ≡ cond (is_between low (n + 1) i) (value i) (word_in old i)
     at h = ap (word_in (set row n (record { 0 = w }))) h ∙ ap (λ (x : Word). x.0) (get_or-set_same row n (record { 0 = w }) (record { 0 = 0 }) inside) ∙ e ∙ ap value (sym h)
-      ∙ ap (λ t. cond t (value i) (word_in old i)) (sym (between low (n + 1) i (omega arith) (omega arith)))
+        ∙ ap (λ t. cond t (value i) (word_in old i)) (sym (between low (n + 1) i (omega arith) (omega arith)))
 
 -- a part after a part
 same_test : (low mid high i : ℕ) → i < mid → i < high → is_between low mid i ≡ is_between low high i
@@ -157,6 +158,7 @@ marks_more flag n old new marks before j = marks j ∙ ap (λ b. b || (eqb j n &
     or_false : (b : Bool) → (b || false) ≡ b
     or_false true = refl
     or_false false = refl
+
     same_below : (j n : ℕ) → j ≢ n → ltb j n ≡ ltb j (n + 1)
     same_below j n ne = elim (cases_lt j n) [
       | inl l ↦ let a : ltb j (n + 1) ≡ true = grind (arith, nat_tests) in let b : ltb j n ≡ true = grind (arith, nat_tests) in b ∙ sym a

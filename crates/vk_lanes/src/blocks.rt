@@ -59,10 +59,8 @@ pub fn step(op: Lanewise, t: Ty, mask: &LaneMask, k: usize, x: u64x8, y: u64x8, 
     requires right { length y ≡ 8 }
     requires old { length old ≡ 8 }
     ensures len { length result ≡ 8 }
-    ensures lanes {
-        (i : ℕ) → i < 8 → slice_index_or result i 0
-            ≡ cond (is_on mask.now (8 * k + i)) (pattern op t (slice_index_or x i 0) (slice_index_or y i 0)) (slice_index_or old i 0)
-    }
+    ensures lanes { (i : ℕ) → i < 8 → slice_index_or result i 0
+        ≡ cond (is_on mask.now (8 * k + i)) (pattern op t (slice_index_or x i 0) (slice_index_or y i 0)) (slice_index_or old i 0) }
 {
     chosen8(mask.block(k), computed8(op, t, x, y), old)
 }

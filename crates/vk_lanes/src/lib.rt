@@ -8,7 +8,7 @@ pub mod masks;
 mod patterns;
 pub mod rows;
 
-pub use mask::LaneMask;
 pub use kernels::{lanes_convert, lanes_copy, lanes1, lanes2};
+pub use mask::LaneMask;
 pub use masks::{mask_and, mask_but, mask_of, mask_or};
 pub use rows::{rows_convert, rows_copy, rows1, rows2};

@@ -39,10 +39,8 @@ pub fn rows2(
     requires right_words { AreTyped bt (is_on mask.now) (λ i. word_in rows.old (b + i)) }
     requires types { AreOperands op t bt }
 
-    ensures words {
-        WritesRow (lane_count mask.now) d (is_on mask.now)
-            (λ i. op2_word op t bt (word_in rows.old (a + i)) (word_in rows.old (b + i)) (word_in rows.old (d + i))) rows.old rows.new
-    }
+    ensures words { WritesRow (lane_count mask.now) d (is_on mask.now)
+        (λ i. op2_word op t bt (word_in rows.old (a + i)) (word_in rows.old (b + i)) (word_in rows.old (d + i))) rows.old rows.new }
     ensures zero_len { lane_count zero.new ≡ lane_count mask.now }
     ensures zero { (i : ℕ) → is_on zero.new i ≡ (is_on mask.now i && divides_by_0 op (number_of bt (word_in rows.old (b + i)))) }
 {
@@ -88,31 +86,53 @@ pub fn rows_copy(mask: &LaneMask, rows: &mut [Word], a: usize, d: usize)
 }
 
 // Eight lanes from 8 k on. Places of the written row stand for lanes: place j for lane j - d.
-fn block(op: Lanewise, t: Ty, mask: &LaneMask, rows: &mut [Word], a: usize, b: usize, d: usize, k: usize)
+fn block(
+    op: Lanewise,
+    t: Ty,
+    mask: &LaneMask,
+    rows: &mut [Word],
+    a: usize,
+    b: usize,
+    d: usize,
+    k: usize,
+)
     requires room { 8 * k + 8 ≤ lane_count mask.now }
     requires left { a + lane_count mask.now ≤ length rows.old }
     requires right { b + lane_count mask.now ≤ length rows.old }
     requires written { d + lane_count mask.now ≤ length rows.old }
-    ensures {
-        WritesOn (d + 8 * k) (d + (8 * k + 8)) (λ j. is_on mask.now (j - d))
-            (λ j. pattern op t (word_in rows.old (a + (j - d))) (word_in rows.old (b + (j - d)))) rows.old rows.new
-    }
+    ensures { WritesOn (d + 8 * k) (d + (8 * k + 8)) (λ j. is_on mask.now (j - d))
+        (λ j. pattern op t (word_in rows.old (a + (j - d))) (word_in rows.old (b + (j - d)))) rows.old rows.new }
 {
     let at = 8 * k;
-    let words = step(op, t, mask, k, load(rows, a + at), load(rows, b + at), load(rows, d + at));
+    let words = step(
+        op,
+        t,
+        mask,
+        k,
+        load(rows, a + at),
+        load(rows, b + at),
+        load(rows, d + at),
+    );
     store(words, rows, d + at);
 }
 
 // One lane.
-fn lane(op: Lanewise, t: Ty, mask: &LaneMask, rows: &mut [Word], a: usize, b: usize, d: usize, i: usize)
+fn lane(
+    op: Lanewise,
+    t: Ty,
+    mask: &LaneMask,
+    rows: &mut [Word],
+    a: usize,
+    b: usize,
+    d: usize,
+    i: usize,
+)
     requires room { i < lane_count mask.now }
     requires left { a + lane_count mask.now ≤ length rows.old }
     requires right { b + lane_count mask.now ≤ length rows.old }
     requires written { d + lane_count mask.now ≤ length rows.old }
-    ensures {
-        WritesOn (d + i) (d + (i + 1)) (λ j. is_on mask.now (j - d))
-            (λ j. pattern op t (word_in rows.old (a + (j - d))) (word_in rows.old (b + (j - d)))) rows.old rows.new
-    }
+    ensures { WritesOn (d + i) (d + (i + 1)) (λ j. is_on mask.now (j - d))
+        (λ j. pattern op t (word_in rows.old (a + (j - d))) (word_in rows.old (b + (j - d)))) rows.old rows.new }
 {
     if mask.get(i) {
         rows[d + i] = Word(computed(op, t, rows[a + i].0, rows[b + i].0));
@@ -126,10 +146,8 @@ fn compute(op: Lanewise, t: Ty, mask: &LaneMask, rows: &mut [Word], a: usize, b:
     requires written { d + lane_count mask.now ≤ length rows.old }
     requires left_row { AreRows (lane_count mask.now) a d }
     requires right_row { AreRows (lane_count mask.now) b d }
-    ensures {
-        WritesRow (lane_count mask.now) d (is_on mask.now)
-            (λ i. pattern op t (word_in rows.old (a + i)) (word_in rows.old (b + i))) rows.old rows.new
-    }
+    ensures { WritesRow (lane_count mask.now) d (is_on mask.now)
+        (λ i. pattern op t (word_in rows.old (a + i)) (word_in rows.old (b + i))) rows.old rows.new }
 {
     let blocks = mask.len() / 8;
     for k in 0..blocks {
@@ -162,10 +180,8 @@ fn divide(
     requires zero_len { lane_count zero.old ≡ lane_count mask.now }
     requires zero_off { (i : ℕ) → is_on zero.old i ≡ false }
 
-    ensures words {
-        WritesRow (lane_count mask.now) d (is_on mask.now)
-            (λ i. op2_word op t bt (word_in rows.old (a + i)) (word_in rows.old (b + i)) (word_in rows.old (d + i))) rows.old rows.new
-    }
+    ensures words { WritesRow (lane_count mask.now) d (is_on mask.now)
+        (λ i. op2_word op t bt (word_in rows.old (a + i)) (word_in rows.old (b + i)) (word_in rows.old (d + i))) rows.old rows.new }
     ensures zero_len { lane_count zero.new ≡ lane_count mask.now }
     ensures zero { (i : ℕ) → is_on zero.new i ≡ (is_on mask.now i && divides_by_0 op (number_of bt (word_in rows.old (b + i)))) }
 {
@@ -195,10 +211,8 @@ fn divide_lane(
     requires left_word { is_on mask.now i ≡ true → IsCanonical t (word_in rows.old (a + i)) }
     requires right_word { is_on mask.now i ≡ true → IsCanonical bt (word_in rows.old (b + i)) }
 
-    ensures words {
-        WritesOn (d + i) (d + (i + 1)) (λ j. is_on mask.now (j - d))
-            (λ j. op2_word op t bt (word_in rows.old (a + (j - d))) (word_in rows.old (b + (j - d))) (word_in rows.old (d + (j - d)))) rows.old rows.new
-    }
+    ensures words { WritesOn (d + i) (d + (i + 1)) (λ j. is_on mask.now (j - d))
+        (λ j. op2_word op t bt (word_in rows.old (a + (j - d))) (word_in rows.old (b + (j - d))) (word_in rows.old (d + (j - d)))) rows.old rows.new }
     ensures zero_len { lane_count zero.new ≡ lane_count zero.old }
     ensures zero { Marks i (is_on mask.now i && divides_by_0 op (number_of bt (word_in rows.old (b + i)))) zero.old zero.new }
 {

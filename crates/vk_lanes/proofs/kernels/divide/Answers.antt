@@ -15,8 +15,8 @@ loop-i-preserved c =
     let value = λ (j old : ℕ). op2_word c.args.op c.args.t c.args.bt (word_in c.args.a.now j) (word_in c.args.b.now j) old in
     record {
       words = joins 0 c.loop-i.i (c.loop-i.i + 1) on (λ j. value j (word_in c.args.d.now j)) (λ j. value j (word_in c.loop-i.d j)) c.args.d.now c.loop-i.d c.divide_lane.new.d
-        (omega arith) (omega arith) c.loop-i.invariant.words c.divide_lane.ensures.words
-        (λ j l h. ap (value j) (untouched 0 c.loop-i.i (chosen on (λ j. value j (word_in c.args.d.now j)) c.args.d.now) (word_in c.args.d.now) (word_in c.loop-i.d) c.loop-i.invariant.words j (inr l)));
+          (omega arith) (omega arith) c.loop-i.invariant.words c.divide_lane.ensures.words
+          (λ j l h. ap (value j) (untouched 0 c.loop-i.i (chosen on (λ j. value j (word_in c.args.d.now j)) c.args.d.now) (word_in c.args.d.now) (word_in c.loop-i.d) c.loop-i.invariant.words j (inr l)));
       len = c.divide_lane.ensures.zero_len ∙ c.loop-i.invariant.len;
       zero = marks_more (λ j. on j && divides_by_0 c.args.op (number_of c.args.bt (word_in c.args.b.now j))) c.loop-i.i c.loop-i.zero c.divide_lane.new.zero c.divide_lane.ensures.zero c.loop-i.invariant.zero;
     }

@@ -12,5 +12,5 @@ returns c =
     writes_same (is_on c.args.mask.now) (λ i. pattern c.unary.result c.args.t (word_in c.args.a.now i) (word_in c.args.a.now i))
     (λ i. op1_word c.args.op c.args.t (word_in c.args.a.now i)) c.args.d.now c.compute.new.d
     (λ i h. ap (λ l. pattern l c.args.t (word_in c.args.a.now i) (word_in c.args.a.now i)) c.unary.ensures
-      ∙ computes1 c.args.op c.args.t (word_in c.args.a.now i) (word_in c.args.a.now i) (c.requires.words i h).0)
+    ∙ computes1 c.args.op c.args.t (word_in c.args.a.now i) (word_in c.args.a.now i) (c.requires.words i h).0)
     c.compute.ensures

@@ -15,5 +15,5 @@ returns-in-Some-clause-words c =
     let y = word_in c.args.b.now in
     writes_same (is_on c.args.mask.now) (λ i. pattern c.in-Some.work t (x i) (y i)) (λ i. op2_word c.args.op t c.args.bt (x i) (y i) (word_in c.args.d.now i)) c.args.d.now c.compute.new.d
     (λ i h. subst (λ (o : Option Lanewise). IfSome o (λ l. pattern l t (x i) (y i) ≡ op2_word c.args.op t c.args.bt (x i) (y i) (word_in c.args.d.now i))) (sym c.in-Some.ensures)
-      (computes2 c.args.op t c.args.bt (x i) (y i) (word_in c.args.d.now i) (c.requires.left_words i h) (c.requires.right_words i h) c.requires.types))
+    (computes2 c.args.op t c.args.bt (x i) (y i) (word_in c.args.d.now i) (c.requires.left_words i h) (c.requires.right_words i h) c.requires.types))
     c.compute.ensures

@@ -26,7 +26,7 @@ returns c =
       | in-Or w ↦ w.result-is ∙ of_op _ _ t x y _ w.in-Or.is (w.extend8-in-Or.ensures ∙ map-zip2 (extended t) bit_or x y)
       | in-Xor w ↦ w.result-is ∙ of_op _ _ t x y _ w.in-Xor.is (w.extend8-in-Xor.ensures ∙ map-zip2 (extended t) bit_xor x y)
       | in-Shl w ↦ w.result-is ∙ of_op _ _ t x y _ w.in-Shl.is (w.extend8-in-Shl.ensures ∙ map-zip2 (extended t) (λ x n. x * 2 ^ n % 2 ^ 64) x w.counts8.result
-        ∙ ap (zip2 (λ x n. extended t (x * 2 ^ n % 2 ^ 64)) x) w.counts8.ensures.value ∙ zip2-map_right (λ x n. extended t (x * 2 ^ n % 2 ^ 64)) (count_of t) x y)
+          ∙ ap (zip2 (λ x n. extended t (x * 2 ^ n % 2 ^ 64)) x) w.counts8.ensures.value ∙ zip2-map_right (λ x n. extended t (x * 2 ^ n % 2 ^ 64)) (count_of t) x y)
       | in-Shr w ↦ w.result-is ∙ of_op _ _ t x y _ w.in-Shr.is (w.shifted_right8.ensures)
       | in-Eq w ↦ w.result-is ∙ of_op _ _ t x y _ w.in-Eq.is (w.equal8.ensures)
       | in-Ne w ↦ w.result-is ∙ of_op _ _ t x y _ w.in-Ne.is (w.unequal8.ensures)
