@@ -1,5 +1,5 @@
 -- Lanes as bits of bytes.
-use Rattle.std.proofs.Common.{◌≡◌, ℕ, zero, suc, ◌+◌, ◌-◌, ◌*◌, ◌/◌, ◌%◌, ◌^◌, ◌<◌, ◌≤◌, ◌≢◌, ◌⊎◌, inl, inr, min, max, List, [], ◌∷◌, length, get_or, set, Bool, true, false, not, ◌&&◌, ◌||◌, cond, ltb, eqb, bit_and, bit_or, bit_xor, replicate, ap, ap₂, sym, subst, ◌∙◌, refl, arith, map, lit≤, w8, w64}
+use Rattle.std.proofs.Common.{◌≡◌, ℕ, zero, suc, ◌+◌, ◌-◌, ◌*◌, ◌/◌, ◌%◌, ◌^◌, ◌<◌, ◌≤◌, ◌≢◌, ◌⊎◌, inl, inr, min, max, List, [], ◌∷◌, length, get_or, set, Bool, true, false, true≢false, not, ◌&&◌, ◌||◌, cond, ltb, eqb, bit_and, bit_or, bit_xor, replicate, ap, ap₂, sym, subst, ◌∙◌, refl, arith, map, lit≤, w8, w64}
 use Rattle.std.proofs.lemmas.Nat.Bits.{bit_at-lt, bit_at-zero, bit_at_and, bit_at_clear_other, bit_at_clear_same, bit_at_not, bit_at_set_other, bit_at_set_same, bit_at_or, bit_at_xor, shr_and_one}
 use Rattle.std.proofs.lemmas.Simd.{bit_mask_l, bitmask_splat, get_or-zip2, mask_l-lt}
 use Rattle.std.proofs.lemmas.List.{get_or-map, length-map}
@@ -23,6 +23,10 @@ on_read m i h = let e : ltb i m.lanes ≡ true = grind (arith, nat_tests) in ap 
 pub on_past : (m : LaneMask) (i : ℕ) → m.lanes ≤ i → is_on m i ≡ false
 unfolding is_on
 on_past m i h = let e : ltb i m.lanes ≡ false = grind (arith, nat_tests) in ap (λ b. b && eqb (bit_of m i) 1) e
+
+-- a lane that is on is one of the mask's
+pub inside : (m : LaneMask) (i : ℕ) → is_on m i ≡ true → i < m.lanes
+inside m i h = elim (cases_lt i m.lanes) [ inl l ↦ l | inr past ↦ absurd (true≢false (sym h ∙ on_past m i past)) ]
 
 -- the place of a lane's byte
 byte_place : (lanes i : ℕ) → lanes ≤ 256 → i < lanes → i / 8 < 32

@@ -1,5 +1,5 @@
 -- What the code computes on 64-bit patterns is the pattern of what the definitions of operators give on numbers.
-use Rattle.std.proofs.Common.{◌≡◌, ℕ, zero, suc, ◌+◌, ◌-◌, ◌*◌, ◌/◌, ◌%◌, ◌^◌, ◌<◌, ◌≤◌, ◌⊎◌, inl, inr, Bool, true, false, not, cond, ltb, leb, eqb, max, min, IfSome, bit_and, bit_or, bit_xor, ℤ, pos, negsuc, ◌+ℤ◌, ◌-ℤ◌, ◌*ℤ◌, neg_ℤ, Ok, w8, w16, w32, w64, ap, ap₂, sym, subst, ◌∙◌, refl, arith, lit<}
+use Rattle.std.proofs.Common.{◌≡◌, ℕ, suc, ◌+◌, ◌-◌, ◌*◌, ◌/◌, ◌%◌, ◌^◌, ◌<◌, ◌≤◌, inl, inr, Bool, true, false, not, cond, ltb, leb, eqb, max, min, IfSome, bit_and, bit_or, bit_xor, ℤ, pos, negsuc, ◌+ℤ◌, ◌-ℤ◌, ◌*ℤ◌, neg_ℤ, w8, w16, w32, w64, ap, ap₂, sym, ◌∙◌, refl, arith, lit<}
 use Rattle.std.proofs.Math.Nat.{add-mul-div_right, div-add-mod, div-le_self, mod-eq_of_lt, mod-lt, zero-div}
 use Rattle.std.proofs.Math.Pow.{pow_pos}
 use Rattle.std.proofs.lemmas.Nat.{and_le_r, and_mask, div-mul-add, div_below, pow-add}
@@ -8,7 +8,7 @@ use Rattle.std.proofs.lemmas.Bool.{cases_lt}
 use Rattle.std.proofs.lemmas.Bool.Decides.{Decides-eqb, Decides-int_eq, Decides-like, Decides-ltb, nat_tests, same_from_decides}
 use Rattle.std.specs.Ordering.{int_eq}
 use Rattle.std.specs.Prelude.{FitsSigned, int_le, int_lt, unsigned_abs, ◌<ℤ◌}
-use Rattle.std.specs.Int.{Width, bit_not, cast_signed, cast_unsigned, int_div_euclid, int_rem_euclid, int_wrap}
+use Rattle.std.specs.Int.{Width, bit_not, cast_signed, int_div_euclid, int_rem_euclid, int_wrap}
 use Rattle.vk_types.specs.declared.types.Ty.{Ty}
 use Rattle.vk_types.specs.declared.types.Ty.TheVariants.{I8, I16, I32, I64, U8, U16, U32, U64}
 use Rattle.vk_types.specs.Numbers.{IsCanonical, number_of, width_of, word_of, wrap_number}
@@ -16,11 +16,10 @@ use Rattle.vk_types.specs.declared.types.Op1.{Op1}
 use Rattle.vk_types.specs.declared.types.Op1.TheVariants.{Neg, Not}
 use Rattle.vk_types.specs.declared.types.Op2.{Op2}
 use Rattle.vk_types.specs.declared.types.Op2.TheVariants.{Add, Sub, Mul, Div, Rem, And, Or, Xor, Shl, Shr, Eq, Ne, Lt, Le}
-use Rattle.vk_types.specs.Operators.{bit_of, divides_by_0, exact_unary, from_bits, op2_number, shift_count, truth}
+use Rattle.vk_types.specs.Operators.{bit_of, exact_unary, from_bits, shift_count, truth}
 use Rattle.vk_types.proofs.Patterns.{and_of_patterns, not_of_pattern, or_of_patterns, pattern as number_pattern, product_of_patterns, shifted_pattern, unsigned_pattern, wraps_by_pattern, xor_of_patterns}
 use Rattle.vk_lanes.proofs.Vectors.{count-lt}
 use Rattle.vk_types.proofs.Wrapping.{positive, upper, wrap_by_rem}
-use Rattle.vk_lanes.specs.declared.patterns.Lanewise.{Lanewise}
 use Rattle.vk_lanes.specs.declared.patterns.Lanewise.TheVariants.{Extend}
 use Rattle.vk_lanes.specs.Kernels.{AreOperands, convert_word, op1_word, op2_word}
 use Rattle.vk_lanes.specs.Inner.Patterns.{bias_of, biased, count_of, extended, half_of, lanewise1_of, lanewise_of, pattern, wrap_add, wrap_sub}

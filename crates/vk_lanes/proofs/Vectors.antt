@@ -1,13 +1,12 @@
 -- Vectors of eight lanes: what is computed of them lane by lane.
-use Rattle.std.proofs.Common.{◌≡◌, ℕ, zero, suc, ◌+◌, ◌-◌, ◌*◌, ◌/◌, ◌%◌, ◌^◌, ◌<◌, List, [], ◌∷◌, length, map, Bool, cond, bit_and, ap, ap₂, sym, ◌∙◌, refl, arith, w64}
+use Rattle.std.proofs.Common.{◌≡◌, ℕ, ◌-◌, ◌/◌, ◌^◌, ◌<◌, List, [], ◌∷◌, length, map, Bool, cond, bit_and, ap, sym, ◌∙◌, refl, arith, w64}
 use Rattle.std.specs.Simd.Lanes.{zip2}
 use Rattle.std.proofs.lemmas.Simd.{length-zip2, tops_compared}
 use Rattle.std.proofs.lemmas.Nat.{and_le_r}
 use lib.Lanes.{Each1, Each2, sel_l, top}
 use Rattle.vk_types.specs.declared.types.Ty.{Ty}
 use Rattle.vk_types.specs.declared.types.Ty.TheVariants.{I8, I16, I32, I64, U8, U16, U32, U64}
-use Rattle.vk_types.specs.Numbers.{width_of}
-use Rattle.vk_lanes.specs.Inner.Patterns.{bias_of, biased, count_of, extended, half_of, pattern, wrap_add, wrap_sub}
+use Rattle.vk_lanes.specs.Inner.Patterns.{count_of, pattern, wrap_add, wrap_sub}
 use Rattle.vk_lanes.specs.declared.patterns.Lanewise.{Lanewise}
 
 -- a list of eight numbers is given by them

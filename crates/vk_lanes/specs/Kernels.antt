@@ -6,7 +6,7 @@ use Rattle.vk_types.specs.declared.types.Stop.{Stop}
 use Rattle.vk_types.specs.declared.types.Word.{Word}
 use Rattle.vk_types.specs.declared.types.Op1.{Op1}
 use Rattle.vk_types.specs.declared.types.Op2.{Op2}
-use Rattle.vk_types.specs.declared.types.Op2.TheVariants.{Add, Sub, Mul, Div, Rem, And, Or, Xor, Shl, Shr, Eq, Ne, Lt, Le}
+use Rattle.vk_types.specs.declared.types.Op2.TheVariants.{Shl, Shr}
 use Rattle.vk_types.specs.Numbers.{number_of, word_of, wrap_number}
 use Rattle.vk_types.specs.Operators.{op1_number, op2_number}
 use Rattle.vk_lanes.specs.Words.{word_in}

@@ -1,8 +1,8 @@
 // The kernels that write words.
 
-ghost use Rattle.std.specs.Prelude.{◌≡◌, ◌+◌, ◌*◌, ◌<◌, ◌≤◌, ◌&&◌, ℕ, false, length};
+ghost use Rattle.std.specs.Prelude.{◌≡◌, ◌+◌, ◌*◌, ◌<◌, ◌≤◌, ◌&&◌, ℕ, false, length, true};
 ghost use Rattle.vk_types.specs.Numbers.{IsCanonical, number_of};
-ghost use Rattle.vk_types.specs.Operators.{divides_by_0};
+ghost use Rattle.vk_types.specs.Operators.{divides_by_0, result_type};
 ghost use Rattle.vk_lanes.specs.Kernels.{AreOperands, Writes, convert_word, op1_word, op2_word};
 ghost use Rattle.vk_lanes.specs.Masks.{is_on, lane_count};
 ghost use Rattle.vk_lanes.specs.Words.{AreTyped, word_in};
@@ -79,6 +79,7 @@ pub fn lanes2(
     requires types { AreOperands op t bt }
 
     ensures words { Writes (is_on mask.now) (λ i. op2_word op t bt (word_in a.now i) (word_in b.now i) (word_in d.old i)) d.old d.new }
+    ensures typed { (i : ℕ) → is_on mask.now i ≡ true → is_on zero.new i ≡ false → IsCanonical (result_type op t) (word_in d.new i) }
     ensures zero_len { lane_count zero.new ≡ lane_count mask.now }
     ensures zero { (i : ℕ) → is_on zero.new i ≡ (is_on mask.now i && divides_by_0 op (number_of bt (word_in b.now i))) }
 {
@@ -96,7 +97,8 @@ pub fn lanes1(op: Op1, t: Ty, mask: &LaneMask, a: &[Word], d: &mut [Word])
     requires operand { length a.now ≡ lane_count mask.now }
     requires written { length d.old ≡ lane_count mask.now }
     requires words { AreTyped t (is_on mask.now) (word_in a.now) }
-    ensures { Writes (is_on mask.now) (λ i. op1_word op t (word_in a.now i)) d.old d.new }
+    ensures words { Writes (is_on mask.now) (λ i. op1_word op t (word_in a.now i)) d.old d.new }
+    ensures typed { AreTyped t (is_on mask.now) (word_in d.new) }
 {
     compute(Lanewise::unary(op), t, mask, a, a, d);
 }
@@ -109,7 +111,8 @@ pub fn lanes_convert(from: Ty, to: Ty, mask: &LaneMask, a: &[Word], d: &mut [Wor
     requires operand { length a.now ≡ lane_count mask.now }
     requires written { length d.old ≡ lane_count mask.now }
     requires words { AreTyped from (is_on mask.now) (word_in a.now) }
-    ensures { Writes (is_on mask.now) (λ i. convert_word from to (word_in a.now i)) d.old d.new }
+    ensures words { Writes (is_on mask.now) (λ i. convert_word from to (word_in a.now i)) d.old d.new }
+    ensures typed { AreTyped to (is_on mask.now) (word_in d.new) }
 {
     compute(Lanewise::Extend, to, mask, a, a, d);
 }

@@ -3,7 +3,7 @@
 
 ghost use Rattle.std.specs.Prelude.{◌≡◌, ◌+◌, ◌-◌, ◌*◌, ◌<◌, ◌≤◌, ◌&&◌, ℕ, false, length, true};
 ghost use Rattle.vk_types.specs.Numbers.{IsCanonical, number_of};
-ghost use Rattle.vk_types.specs.Operators.{divides_by_0};
+ghost use Rattle.vk_types.specs.Operators.{divides_by_0, result_type};
 ghost use Rattle.vk_lanes.specs.Kernels.{AreOperands, AreRows, WritesRow, convert_word, op1_word, op2_word};
 ghost use Rattle.vk_lanes.specs.Masks.{is_on, lane_count};
 ghost use Rattle.vk_lanes.specs.Words.{AreTyped, word_in};
@@ -41,6 +41,7 @@ pub fn rows2(
 
     ensures words { WritesRow (lane_count mask.now) d (is_on mask.now)
         (λ i. op2_word op t bt (word_in rows.old (a + i)) (word_in rows.old (b + i)) (word_in rows.old (d + i))) rows.old rows.new }
+    ensures typed { (i : ℕ) → is_on mask.now i ≡ true → is_on zero.new i ≡ false → IsCanonical (result_type op t) (word_in rows.new (d + i)) }
     ensures zero_len { lane_count zero.new ≡ lane_count mask.now }
     ensures zero { (i : ℕ) → is_on zero.new i ≡ (is_on mask.now i && divides_by_0 op (number_of bt (word_in rows.old (b + i)))) }
 {
@@ -57,7 +58,8 @@ pub fn rows1(op: Op1, t: Ty, mask: &LaneMask, rows: &mut [Word], a: usize, d: us
     requires written { d + lane_count mask.now ≤ length rows.old }
     requires row { AreRows (lane_count mask.now) a d }
     requires words { AreTyped t (is_on mask.now) (λ i. word_in rows.old (a + i)) }
-    ensures { WritesRow (lane_count mask.now) d (is_on mask.now) (λ i. op1_word op t (word_in rows.old (a + i))) rows.old rows.new }
+    ensures words { WritesRow (lane_count mask.now) d (is_on mask.now) (λ i. op1_word op t (word_in rows.old (a + i))) rows.old rows.new }
+    ensures typed { AreTyped t (is_on mask.now) (λ i. word_in rows.new (d + i)) }
 {
     compute(Lanewise::unary(op), t, mask, rows, a, a, d);
 }
@@ -69,7 +71,8 @@ pub fn rows_convert(from: Ty, to: Ty, mask: &LaneMask, rows: &mut [Word], a: usi
     requires written { d + lane_count mask.now ≤ length rows.old }
     requires row { AreRows (lane_count mask.now) a d }
     requires words { AreTyped from (is_on mask.now) (λ i. word_in rows.old (a + i)) }
-    ensures { WritesRow (lane_count mask.now) d (is_on mask.now) (λ i. convert_word from to (word_in rows.old (a + i))) rows.old rows.new }
+    ensures words { WritesRow (lane_count mask.now) d (is_on mask.now) (λ i. convert_word from to (word_in rows.old (a + i))) rows.old rows.new }
+    ensures typed { AreTyped to (is_on mask.now) (λ i. word_in rows.new (d + i)) }
 {
     compute(Lanewise::Extend, to, mask, rows, a, a, d);
 }

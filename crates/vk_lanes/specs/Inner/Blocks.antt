@@ -1,5 +1,5 @@
 -- Which words of a row a part of the work has written.
-use Rattle.std.specs.Prelude.{ℕ, ◌+◌, ◌-◌, ◌≡◌, Bool, not, ◌&&◌, ◌||◌, ◌==◌, cond, List, nat_le, nat_lt, slice_index_or}
+use Rattle.std.specs.Prelude.{ℕ, ◌≡◌, Bool, not, ◌&&◌, ◌||◌, ◌==◌, cond, List, nat_le, nat_lt}
 use Rattle.vk_types.specs.declared.types.Word.{Word}
 use Rattle.vk_lanes.specs.declared.mask.LaneMask.{LaneMask}
 use Rattle.vk_lanes.specs.Masks.{is_on}

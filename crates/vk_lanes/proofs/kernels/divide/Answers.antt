@@ -1,4 +1,4 @@
-use Rattle.std.proofs.Common.{ap, ◌∙◌, ◌+◌, ◌≡◌, ◌<◌, ◌≤◌, ◌&&◌, inr, sym, length, ℕ, arith}
+use Rattle.std.proofs.Common.{ap, ◌∙◌, ◌+◌, ◌&&◌, inr, ℕ, arith}
 use Rattle.vk_types.specs.Numbers.{number_of}
 use Rattle.vk_types.specs.Operators.{divides_by_0}
 use Rattle.vk_lanes.specs.Kernels.{op2_word}

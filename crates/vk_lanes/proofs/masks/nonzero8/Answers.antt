@@ -1,4 +1,4 @@
-use Rattle.std.proofs.Common.{◌≡◌, ◌<◌, ◌^◌, ◌∙◌, ap, sym, subst, eqb, ℕ}
+use Rattle.std.proofs.Common.{◌<◌, ◌^◌, ◌∙◌, ap, sym, subst, eqb, ℕ}
 use Rattle.std.specs.Int.{bit_at}
 use Rattle.vk_lanes.proofs.Bits.{nonzero-lt, nonzero_bit, nonzero_mask}
 use Rattle.vk_lanes.proofs.masks.nonzero8.Goals as goal

@@ -1,4 +1,4 @@
-use Rattle.std.proofs.Common.{ap, ◌∙◌, ◌≡◌, ◌<◌, sym, subst, map, bit_and, ℕ, List}
+use Rattle.std.proofs.Common.{ap, ◌∙◌, ◌<◌, sym, subst, map, bit_and, ℕ, List}
 use lib.Lanes.{Each1}
 use Rattle.vk_lanes.specs.Inner.Patterns.{count_of}
 use Rattle.vk_lanes.proofs.Vectors.{count-lt, each-map, with_constant}

@@ -1,4 +1,4 @@
-use Rattle.std.proofs.Common.{ap, ap₂, ◌∙◌, map, bit_and}
+use Rattle.std.proofs.Common.{ap₂, ◌∙◌, map, bit_and}
 use Rattle.vk_lanes.specs.Inner.Patterns.{wrap_add, wrap_sub}
 use Rattle.vk_lanes.proofs.Vectors.{extended_eight}
 use Rattle.vk_lanes.proofs.patterns.extend8.Goals as goal

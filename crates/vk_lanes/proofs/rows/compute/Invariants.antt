@@ -1,4 +1,4 @@
-use Rattle.std.proofs.Common.{◌≡◌, ◌+◌, ◌-◌, ◌*◌}
+use Rattle.std.proofs.Common.{◌+◌, ◌-◌, ◌*◌}
 use Rattle.vk_lanes.specs.Masks.{is_on}
 use Rattle.vk_lanes.specs.Words.{word_in}
 use Rattle.vk_lanes.specs.Inner.Blocks.{WritesOn}

@@ -1,4 +1,4 @@
-use Rattle.std.proofs.Common.{◌≡◌, ◌+◌, ◌-◌, ◌<◌, ◌≤◌, ◌&&◌, ◌∙◌, ℕ, Bool, List, ap₂, sym, subst, arith}
+use Rattle.std.proofs.Common.{◌≡◌, ◌+◌, ◌-◌, ◌&&◌, ◌∙◌, ℕ, Bool, List, sym, subst, arith}
 use Rattle.vk_types.specs.declared.types.Word.{Word}
 use Rattle.vk_types.specs.Numbers.{IsCanonical, number_of}
 use Rattle.vk_types.specs.Operators.{divides_by_0}
@@ -7,7 +7,7 @@ use Rattle.vk_lanes.specs.Masks.{is_on, lane_count}
 use Rattle.vk_lanes.specs.Words.{word_in}
 use Rattle.vk_lanes.specs.Inner.Blocks.{Marks, WritesOn, chosen}
 use Rattle.vk_lanes.proofs.Bits.{on_past}
-use Rattle.vk_lanes.proofs.InRows.{joins_row, operand_same, row_same, row_written, same_operands}
+use Rattle.vk_lanes.proofs.InRows.{joins_row, operand_same, row_written, same_operands}
 use Rattle.vk_lanes.proofs.Written.{marks_all, marks_more}
 use Rattle.vk_lanes.proofs.rows.divide.Goals as goal
 
