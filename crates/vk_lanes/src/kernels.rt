@@ -166,9 +166,9 @@ fn divide_lane(
     bt: Ty,
     d: &mut [Word],
     zero: &mut LaneMask,
-    i: usize,
+    lane: usize,
 )
-    requires room { i < lane_count mask.now }
+    requires room { lane < lane_count mask.now }
     requires left { length a.now ≡ lane_count mask.now }
     requires right { length b.now ≡ lane_count mask.now }
     requires written { length d.old ≡ lane_count mask.now }
@@ -176,12 +176,12 @@ fn divide_lane(
     requires left_words { AreTyped t (is_on mask.now) (word_in a.now) }
     requires right_words { AreTyped bt (is_on mask.now) (word_in b.now) }
 
-    ensures words { WritesOn i (i + 1) (is_on mask.now) (λ j. op2_word op t bt (word_in a.now j) (word_in b.now j) (word_in d.old j)) d.old d.new }
+    ensures words { WritesOn lane (lane + 1) (is_on mask.now) (λ j. op2_word op t bt (word_in a.now j) (word_in b.now j) (word_in d.old j)) d.old d.new }
     ensures zero_len { lane_count zero.new ≡ lane_count zero.old }
-    ensures zero { Marks i (is_on mask.now i && divides_by_0 op (number_of bt (word_in b.now i))) zero.old zero.new }
+    ensures zero { Marks lane (is_on mask.now lane && divides_by_0 op (number_of bt (word_in b.now lane))) zero.old zero.new }
 {
-    if mask.get(i) {
-        d[i] = quotient(op, t, a[i], b[i], bt, d[i], zero, i);
+    if mask.get(lane) {
+        d[lane] = quotient(op, t, a[lane], b[lane], bt, d[lane], zero, lane);
     }
 }
 
