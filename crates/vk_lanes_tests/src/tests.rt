@@ -97,8 +97,23 @@ fn some_lanes(lanes: usize, all: bool) -> LaneMask
     mask
 }
 
+fn even_lanes(lanes: usize) -> LaneMask
+    requires { lanes ≤ 256 }
+    ensures { lane_count result ≡ lanes }
+{
+    let mut mask = LaneMask::new(lanes);
+    for lane in 0..lanes {
+        mask.set(lane, lane % 2 == 0);
+    }
+    mask
+}
+
 // What a lane of the written row has before.
 const OLD: Word = Word(85);
+
+fn blank<const N: usize>() -> [Word; N] {
+    [OLD; N]
+}
 
 fn divides(op: Op2) -> bool {
     matches!(op, Op2::Div | Op2::Rem)
@@ -235,10 +250,7 @@ fn check_masks(rt: &impl Abort, a: &mut [Word])
 {
     let lanes = a.len();
     let left = some_lanes(lanes, false);
-    let mut right = LaneMask::new(lanes);
-    for lane in 0..lanes {
-        right.set(lane, lane % 2 == 0);
-    }
+    let right = even_lanes(lanes);
     fill(Ty::I32, b"-2147483648 -1 0 1 2147483647", false, a);
     let mut both = LaneMask::new(0);
     let mut either = LaneMask::new(0);
@@ -264,10 +276,10 @@ fn check_masks(rt: &impl Abort, a: &mut [Word])
 fn check_type(rt: &impl Abort, t: Ty, ends: &[u8], results: &[[&[u8]; 5]; 14], lanes: usize)
     requires { lanes ≤ 256 }
 {
-    let mut a = [OLD; 256];
-    let mut b = [OLD; 256];
-    let mut d = [OLD; 256];
-    let mut rows = [OLD; 768];
+    let mut a = blank::<256>();
+    let mut b = blank::<256>();
+    let mut d = blank::<256>();
+    let mut rows = blank::<768>();
     for k in 0..14 {
         let op = OPERATORS[k];
         for all in [true, false] {
@@ -332,8 +344,8 @@ fn computes_unsigned_operators_as_c_does(rt: HostRuntime) {
 fn check_singles(rt: &impl Abort, t: Ty, results: &[&[u8]; 11], lanes: usize, all: bool)
     requires { lanes ≤ 256 }
 {
-    let mut a = [OLD; 256];
-    let mut d = [OLD; 256];
+    let mut a = blank::<256>();
+    let mut d = blank::<256>();
     let ends = results[0];
     check_single(
         rt,
@@ -391,7 +403,7 @@ fn negates_and_converts_as_c_does(rt: HostRuntime) {
 
 #[test]
 fn joins_masks(rt: HostRuntime) {
-    let mut a = [OLD; 256];
+    let mut a = blank::<256>();
     for lanes in &LENGTHS {
         check_masks(&rt, &mut a[..*lanes]);
     }
