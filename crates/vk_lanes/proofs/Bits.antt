@@ -1,6 +1,6 @@
 -- Lanes as bits of bytes.
 use Rattle.std.proofs.Common.{◌≡◌, ℕ, zero, suc, ◌+◌, ◌-◌, ◌*◌, ◌/◌, ◌%◌, ◌^◌, ◌<◌, ◌≤◌, ◌≢◌, ◌⊎◌, inl, inr, min, max, List, [], ◌∷◌, length, get_or, set, Bool, true, false, true≢false, not, ◌&&◌, ◌||◌, cond, ltb, eqb, bit_and, bit_or, bit_xor, replicate, ap, ap₂, sym, subst, ◌∙◌, refl, arith, map, lit≤, w8, w64}
-use Rattle.std.proofs.lemmas.Nat.Bits.{bit_at-lt, bit_at-zero, bit_at_and, bit_at_clear_other, bit_at_clear_same, bit_at_not, bit_at_set_other, bit_at_set_same, bit_at_or, bit_at_xor, shr_and_one}
+use Rattle.std.proofs.lemmas.Nat.Bits.{bit_at-lt, bit_at-zero, bit_at_and, bit_at_clear_other, bit_at_clear_same, bit_at_not, bit_at_ones, bit_at_set_other, bit_at_set_same, bit_at_or, bit_at_xor, shr_and_one}
 use Rattle.std.proofs.lemmas.Simd.{bit_mask_l, bitmask_splat, get_or-zip2, mask_l-lt}
 use Rattle.std.proofs.lemmas.List.{get_or-map, length-map}
 use lib.Lanes.{mask_l, top}
@@ -42,6 +42,22 @@ pub all_off : (m : LaneMask) → m.bytes ≡ replicate 32 0 → (i : ℕ) → is
 all_off m e i = elim (cases_lt i m.lanes) [
   | inl low ↦ on_read m i low ∙ ap (λ b. eqb (bit_at b (i % 8)) 1) (ap (λ bytes. get_or bytes (i / 8) 0) e ∙ zeros_at 32 (i / 8)) ∙ ap (λ b. eqb b 1) (bit_at-zero (i % 8))
   | inr high ↦ on_past m i high
+]
+
+ones_at : (n k : ℕ) → k < n → get_or {A = ℕ} (replicate n 255) k 0 ≡ 255
+ones_at zero k h = absurd (omega arith)
+ones_at (suc n) zero h = refl
+ones_at (suc n) (suc k) h = ones_at n k (omega arith)
+
+-- all lanes are on where each byte has all bits
+pub all_on : (m : LaneMask) → m.bytes ≡ replicate 32 255 → (i : ℕ) → is_on m i ≡ ltb i m.lanes
+all_on m e i = elim (cases_lt i m.lanes) [
+  | inl low ↦
+      let small : m.lanes ≤ 256 = m.within in
+      let place : i / 8 < 32 = byte_place m.lanes i small low in
+      let within : ltb i m.lanes ≡ true = grind (arith, nat_tests) in
+      on_read m i low ∙ ap (λ b. eqb (bit_at b (i % 8)) 1) (ap (λ bytes. get_or bytes (i / 8) 0) e ∙ ones_at 32 (i / 8) place) ∙ ap (λ b. eqb b 1) (bit_at_ones 8 (i % 8) (omega arith)) ∙ sym within
+  | inr high ↦ let outside : ltb i m.lanes ≡ false = grind (arith, nat_tests) in on_past m i high ∙ sym outside
 ]
 
 pub read_lane : (m : LaneMask) (i : ℕ) → i < m.lanes → eqb (bit_and (get_or m.bytes (i / 8) 0 / 2 ^ (i % 8)) 1) 1 ≡ is_on m i

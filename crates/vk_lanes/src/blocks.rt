@@ -13,6 +13,7 @@ use std::simd::prelude::*;
 use vk_types::{Ty, Word};
 
 /// The eight words from place `at` on.
+#[inline]
 pub fn load(row: &[Word], at: usize) -> u64x8
     requires { at + 8 ≤ length row.now }
     ensures len { length result ≡ 8 }
@@ -31,6 +32,7 @@ pub fn load(row: &[Word], at: usize) -> u64x8
 }
 
 /// Puts eight words in the places from `at` on.
+#[inline]
 pub fn store(words: u64x8, row: &mut [Word], at: usize)
     requires len { length words ≡ 8 }
     requires room { at + 8 ≤ length row.old }
@@ -42,6 +44,7 @@ pub fn store(words: u64x8, row: &mut [Word], at: usize)
 }
 
 // The new words in the lanes whose bits are set, and the old ones in the others.
+#[inline]
 fn chosen8(lanes: u8, new: u64x8, old: u64x8) -> u64x8
     requires new { length new ≡ 8 }
     requires old { length old ≡ 8 }
@@ -53,6 +56,7 @@ fn chosen8(lanes: u8, new: u64x8, old: u64x8) -> u64x8
 }
 
 /// What is computed of eight lanes from 8 k on in those that are on, and the old words in the others.
+#[inline]
 pub fn step(op: Lanewise, t: Ty, mask: &LaneMask, k: usize, x: u64x8, y: u64x8, old: u64x8) -> u64x8
     requires room { 8 * k + 8 ≤ lane_count mask.now }
     requires left { length x ≡ 8 }

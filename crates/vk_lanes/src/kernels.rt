@@ -186,7 +186,7 @@ fn divide_lane(
 }
 
 /// The quotient or remainder of one lane, or the old word where the divisor is 0, which is noted in `zero`.
-pub fn quotient(
+pub(crate) fn quotient(
     op: Op2,
     t: Ty,
     a: Word,

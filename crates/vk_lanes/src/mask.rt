@@ -1,6 +1,6 @@
 // Which lanes are on.
 
-ghost use Rattle.std.specs.Prelude.{◌≡◌, ◌+◌, ◌*◌, ◌/◌, ◌%◌, ◌<◌, ◌≤◌, ◌==◌, ℕ, cond, false};
+ghost use Rattle.std.specs.Prelude.{◌≡◌, ◌+◌, ◌*◌, ◌/◌, ◌%◌, ◌<◌, ◌≤◌, ◌==◌, ℕ, cond, false, nat_lt};
 ghost use Rattle.std.specs.Int.{bit_at};
 
 /// At most 256 lanes, each on or off.
@@ -23,6 +23,18 @@ impl LaneMask {
     {
         LaneMask {
             bytes: [0; 32],
+            lanes,
+        }
+    }
+
+    /// So many lanes, at most 256, all on.
+    pub fn all(lanes: usize) -> LaneMask
+        requires { lanes ≤ 256 }
+        ensures len { lane_count result ≡ lanes }
+        ensures on { (i : ℕ) → is_on result i ≡ nat_lt i lanes }
+    {
+        LaneMask {
+            bytes: [u8::MAX; 32],
             lanes,
         }
     }

@@ -110,12 +110,14 @@ fn counts(t: Ty) -> u64
     }
 }
 
+#[inline]
 fn extend(t: Ty, p: u64) -> u64
     ensures { result ≡ extended t p }
 {
     (p.wrapping_add(half(t)) & ones(t)).wrapping_sub(half(t))
 }
 
+#[inline]
 fn extend8(t: Ty, p: u64x8) -> u64x8
     requires { length p ≡ 8 }
     ensures { result ≡ map (extended t) p }
@@ -174,6 +176,7 @@ fn at_most8(x: u64x8, y: u64x8) -> u64x8
 }
 
 /// One lane.
+#[inline]
 pub fn computed(op: Lanewise, t: Ty, x: u64, y: u64) -> u64
     ensures { result ≡ pattern op t x y }
 {
@@ -201,6 +204,7 @@ pub fn computed(op: Lanewise, t: Ty, x: u64, y: u64) -> u64
 }
 
 /// Eight lanes.
+#[inline]
 #[tactic(auto, using(crate::proofs::Vectors::vectors))]
 pub fn computed8(op: Lanewise, t: Ty, x: u64x8, y: u64x8) -> u64x8
     requires left { length x ≡ 8 }
