@@ -320,23 +320,32 @@ fn check_type(rt: &impl Abort, t: Ty, ends: &[u8], results: &[[&[u8]; 5]; 14], l
     }
 }
 
-#[test]
-fn computes_signed_operators_as_c_does(rt: HostRuntime) {
-    for lanes in &LENGTHS {
-        check_type(&rt, Ty::I8, ENDS[0][0], &BINARY_I8, *lanes);
-        check_type(&rt, Ty::I16, ENDS[1][0], &BINARY_I16, *lanes);
-        check_type(&rt, Ty::I32, ENDS[2][0], &BINARY_I32, *lanes);
-        check_type(&rt, Ty::I64, ENDS[3][0], &BINARY_I64, *lanes);
+fn results_of(t: Ty) -> &'static [[&'static [u8]; 5]; 14] {
+    match t {
+        Ty::I8 => &BINARY_I8,
+        Ty::I16 => &BINARY_I16,
+        Ty::I32 => &BINARY_I32,
+        Ty::I64 => &BINARY_I64,
+        Ty::U8 => &BINARY_U8,
+        Ty::U16 => &BINARY_U16,
+        Ty::U32 => &BINARY_U32,
+        Ty::U64 => &BINARY_U64,
     }
 }
 
+fn ends_of(k: usize) -> &'static [&'static [u8]; 11]
+    requires { k < 8 }
+{
+    &ENDS[k]
+}
+
 #[test]
-fn computes_unsigned_operators_as_c_does(rt: HostRuntime) {
+fn computes_operators_as_c_does(rt: HostRuntime) {
     for lanes in &LENGTHS {
-        check_type(&rt, Ty::U8, ENDS[4][0], &BINARY_U8, *lanes);
-        check_type(&rt, Ty::U16, ENDS[5][0], &BINARY_U16, *lanes);
-        check_type(&rt, Ty::U32, ENDS[6][0], &BINARY_U32, *lanes);
-        check_type(&rt, Ty::U64, ENDS[7][0], &BINARY_U64, *lanes);
+        for k in 0..8 {
+            let ends = ends_of(k);
+            check_type(&rt, TYPES[k], ends[0], results_of(TYPES[k]), *lanes);
+        }
     }
 }
 
@@ -395,8 +404,9 @@ fn check_singles(rt: &impl Abort, t: Ty, results: &[&[u8]; 11], lanes: usize, al
 fn negates_and_converts_as_c_does(rt: HostRuntime) {
     for lanes in &LENGTHS {
         for k in 0..8 {
-            check_singles(&rt, TYPES[k], &ENDS[k], *lanes, true);
-            check_singles(&rt, TYPES[k], &ENDS[k], *lanes, false);
+            let results = ends_of(k);
+            check_singles(&rt, TYPES[k], results, *lanes, true);
+            check_singles(&rt, TYPES[k], results, *lanes, false);
         }
     }
 }
