@@ -1,1 +1,3 @@
-pub mod Lanes
+pub mod Fitting
+pub mod Live
+pub mod Writes

@@ -38,11 +38,12 @@ fn clear(words: &mut [Word])
 }
 
 impl<'a> Frame<'a> {
-    ghost use Rattle.vk_frames.specs.Frames.{Fits, lanes_of};
+    ghost use Rattle.vk_frames.specs.Frames.{Fits, FitsAs, IsFrame, lanes_of};
     ghost use Rattle.vk_frames.specs.Rows.{no_lanes};
 
     /// A frame in these words, whose registers are 0, whose masks are off, and whose lanes have not stopped.
     pub fn new(words: &'a mut [Word], registers: usize, masks: usize, lanes: usize) -> Frame<'a>
+        requires short { registers ≤ 65536 }
         requires few { lanes ≤ 256 }
         requires words { length words.old ≡ (registers + masks) * lanes }
         ensures fits { Fits registers masks lanes result }
@@ -60,7 +61,7 @@ impl<'a> Frame<'a> {
 
     // The place of a row in a lane.
     fn place(&self, row: usize, lane: usize) -> usize
-        requires fits { Fits self.now.registers self.now.masks self.now.lanes self.now }
+        requires fits { IsFrame self.now }
         requires row { row < self.now.registers + self.now.masks }
         requires lane { lane < self.now.lanes }
         requires short { row < 131072 }
@@ -72,7 +73,7 @@ impl<'a> Frame<'a> {
 
     /// The word of a register in a lane.
     pub fn word(&self, register: u16, lane: usize) -> Word
-        requires fits { Fits self.now.registers self.now.masks self.now.lanes self.now }
+        requires fits { IsFrame self.now }
         requires register { register < self.now.registers }
         requires lane { lane < self.now.lanes }
         ensures { result.0 ≡ (lanes_of self.now lane).reg register }
@@ -82,10 +83,10 @@ impl<'a> Frame<'a> {
 
     /// Writes a register in a lane.
     pub fn set_word(&mut self, register: u16, lane: usize, word: Word)
-        requires fits { Fits self.old.registers self.old.masks self.old.lanes self.old }
+        requires fits { IsFrame self.old }
         requires register { register < self.old.registers }
         requires lane { lane < self.old.lanes }
-        ensures fits { Fits self.old.registers self.old.masks self.old.lanes self.new }
+        ensures fits { FitsAs self.old self.new }
         ensures lanes { lanes_of self.new ≡ put (lanes_of self.old) lane (with_reg (lanes_of self.old lane) register word.0) }
     {
         let place = self.place(usize::from(register), lane);
@@ -94,8 +95,7 @@ impl<'a> Frame<'a> {
 
     /// Whether a lane is on in a mask.
     pub fn is_on(&self, mask: u16, lane: usize) -> bool
-        requires fits { Fits self.now.registers self.now.masks self.now.lanes self.now }
-        requires short { self.now.registers ≤ 65536 }
+        requires fits { IsFrame self.now }
         requires mask { mask < self.now.masks }
         requires lane { lane < self.now.lanes }
         ensures { result ≡ (lanes_of self.now lane).on mask }
@@ -105,11 +105,10 @@ impl<'a> Frame<'a> {
 
     /// Sets a mask in a lane.
     pub fn set_on(&mut self, mask: u16, lane: usize, on: bool)
-        requires fits { Fits self.old.registers self.old.masks self.old.lanes self.old }
-        requires short { self.old.registers ≤ 65536 }
+        requires fits { IsFrame self.old }
         requires mask { mask < self.old.masks }
         requires lane { lane < self.old.lanes }
-        ensures fits { Fits self.old.registers self.old.masks self.old.lanes self.new }
+        ensures fits { FitsAs self.old self.new }
         ensures lanes { lanes_of self.new ≡ put (lanes_of self.old) lane (with_mask (lanes_of self.old lane) mask on) }
     {
         let row = self.registers + usize::from(mask);
@@ -127,9 +126,9 @@ impl<'a> Frame<'a> {
 
     /// Stops a lane.
     pub fn set_stop(&mut self, lane: usize, stop: Stop)
-        requires fits { Fits self.old.registers self.old.masks self.old.lanes self.old }
+        requires fits { IsFrame self.old }
         requires lane { lane < self.old.lanes }
-        ensures fits { Fits self.old.registers self.old.masks self.old.lanes self.new }
+        ensures fits { FitsAs self.old self.new }
         ensures lanes { lanes_of self.new ≡ put (lanes_of self.old) lane (with_stop (lanes_of self.old lane) stop) }
     {
         self.stops[lane] = Some(stop);
@@ -137,8 +136,7 @@ impl<'a> Frame<'a> {
 
     /// Whether a lane is on in a mask and has not stopped.
     pub fn is_live(&self, mask: u16, lane: usize) -> bool
-        requires fits { Fits self.now.registers self.now.masks self.now.lanes self.now }
-        requires short { self.now.registers ≤ 65536 }
+        requires fits { IsFrame self.now }
         requires mask { mask < self.now.masks }
         requires lane { lane < self.now.lanes }
         ensures { result ≡ is_live mask (lanes_of self.now lane) }

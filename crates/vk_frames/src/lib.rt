@@ -2,5 +2,6 @@
 #![tactic(auto)]
 
 pub mod frame;
+pub mod lanes;
 
 pub use frame::Frame;

@@ -1,5 +1,4 @@
-use Rattle.std.proofs.Common.{◌≡◌}
-use Rattle.vk_frames.proofs.Lanes.{lanes_empty}
+use Rattle.vk_frames.proofs.Writes.{lanes_empty}
 use Rattle.vk_frames.proofs.frame.Frame.new.Goals as goal
 
 pub returns-clause-empty : goal.returns-clause-empty

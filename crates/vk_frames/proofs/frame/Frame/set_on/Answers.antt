@@ -1,7 +1,7 @@
-use Rattle.std.proofs.Common.{◌≡◌, ◌+◌, ◌<◌, ap, arith, ◌∙◌, subst}
+use Rattle.std.proofs.Common.{◌≡◌, ◌+◌, ◌<◌, ap, ◌∙◌, subst}
 use Rattle.std.specs.Prelude.{length, slice_set}
 use Rattle.vk_frames.specs.Rows.{lane_of, place_of}
-use Rattle.vk_frames.proofs.Lanes.{lane_with_mask}
+use Rattle.vk_frames.proofs.Writes.{lane_with_mask}
 use Rattle.vk_frames.proofs.frame.Frame.set_on.Goals as goal
 
 pub returns-clause-lanes : goal.returns-clause-lanes

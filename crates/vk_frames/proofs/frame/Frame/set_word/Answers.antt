@@ -1,10 +1,7 @@
-use Rattle.std.proofs.Common.{◌≡◌, ◌<◌, ap, arith, ◌∙◌, subst}
+use Rattle.std.proofs.Common.{◌≡◌, ◌<◌, ap, ◌∙◌, subst}
 use Rattle.std.specs.Prelude.{length, slice_set}
-use Rattle.vk_object.specs.Lane.{with_reg}
-use Rattle.vk_object.specs.Machine.{put}
-use Rattle.vk_frames.specs.Frames.{lanes_of}
 use Rattle.vk_frames.specs.Rows.{lane_of, place_of}
-use Rattle.vk_frames.proofs.Lanes.{lane_with_reg}
+use Rattle.vk_frames.proofs.Writes.{lane_with_reg}
 use Rattle.vk_frames.proofs.frame.Frame.set_word.Goals as goal
 
 pub returns-clause-lanes : goal.returns-clause-lanes

@@ -1,14 +1,15 @@
 -- Lanes after a word of a frame was written.
-use Rattle.std.proofs.Common.{◌≡◌, ◌≢◌, ℕ, zero, suc, ◌+◌, ◌*◌, ◌<◌, ◌≤◌, List, [], ◌∷◌, length, get_or, cond, refl, ap, arith, None, Some, Option, replicate, sym, ◌∙◌, subst, inl, inr, true, false, Bool, ◌&&◌, ◌||◌, not, ◌⊎◌, nat_lt, slice_index_or, ◌==◌}
+use Rattle.std.proofs.Common.{◌≡◌, ◌≢◌, ℕ, zero, suc, ◌+◌, ◌*◌, ◌<◌, ◌≤◌, List, length, cond, refl, ap, arith, None, Option, replicate, sym, ◌∙◌, subst, inl, inr, true, false, Bool, ◌&&◌, not, ◌⊎◌, nat_lt, slice_index_or, ◌==◌}
 use Rattle.std.proofs.Math.ListN.{set}
 use Rattle.std.proofs.lemmas.List.{get_or-set_same, get_or-set_other}
-use Rattle.std.proofs.lemmas.Bool.{cases_eq, cases_lt, eq-eqb, eqb-true, false≢true, lt-ltb, ltb-true, ne_eqb}
+use Rattle.std.proofs.lemmas.Bool.{cases_eq, cases_lt, eq-eqb, eqb-true, false≢true, le-ltb, lt-ltb, ltb-true, ne_eqb}
 use Rattle.std.proofs.lemmas.Bool.Decides.{nat_tests}
 use Rattle.std.proofs.Math.Nat.{mul-le-mul_left}
 use Rattle.vk_types.specs.declared.types.Word.{Word}
 use Rattle.vk_types.specs.declared.types.Stop.{Stop}
-use Rattle.vk_object.specs.Lane.{LaneState, with_mask, with_reg, with_stop}
+use Rattle.vk_object.specs.Lane.{LaneState, with_mask, with_reg}
 use Rattle.vk_object.specs.Machine.{put}
+use Rattle.vk_frames.specs.Each.{each}
 use Rattle.vk_frames.specs.Rows.{lane_of, no_lanes, pattern_at, place_of}
 
 -- ---- lanes as functions
@@ -35,6 +36,35 @@ one_lane f g j l h o = same_lanes g (put f j l) at
       | inr d ↦ o i d ∙ sym (put_other f j l i d)
     ]
 
+pub put_self : (f : ℕ → LaneState) (j : ℕ) → put f j (f j) ≡ f
+put_self f j = same_lanes (put f j (f j)) f at
+  where
+    at : (i : ℕ) → put f j (f j) i ≡ f i
+    at i = elim (cases_eq i j) as (λ _. put f j (f j) i ≡ f i) [
+      | inl s ↦ subst (λ n. put f j (f j) n ≡ f n) (sym s) (put_same f j (f j))
+      | inr d ↦ put_other f j (f j) i d
+    ]
+
+-- one lane more of what is done in each
+pub each_more : (n : ℕ) (f : ℕ → LaneState → LaneState) (l : ℕ → LaneState) → put (each n f l) n (f n (each n f l n)) ≡ each (n + 1) f l
+each_more n f l = sym (one_lane (each n f l) (each (n + 1) f l) n (f n (each n f l n)) here there)
+  where
+    here : each (n + 1) f l n ≡ f n (each n f l n)
+    here = ap (λ b. cond b (f n (l n)) (l n)) (lt-ltb n (n + 1) (omega arith)) ∙ ap (λ b. f n (cond b (f n (l n)) (l n))) (sym (le-ltb n n (omega arith)))
+
+    there : (i : ℕ) → i ≢ n → each (n + 1) f l i ≡ each n f l i
+    there i d = ap (λ b. cond b (f i (l i)) (l i)) (same (cases_lt i n))
+      where
+        same : (i < n) ⊎ (n ≤ i) → nat_lt i (n + 1) ≡ nat_lt i n
+        same (inl h) = lt-ltb i (n + 1) (omega (arith, h)) ∙ sym (lt-ltb i n h)
+        same (inr h) = le-ltb i (n + 1) (omega (arith, h, d)) ∙ sym (le-ltb i n h)
+
+pub each_step : (n : ℕ) (f : ℕ → LaneState → LaneState) (before now next : ℕ → LaneState) → now ≡ each n f before → next ≡ put now n (f n (now n)) → next ≡ each (n + 1) f before
+each_step n f before now next e h = h ∙ (ap (λ (g : ℕ → LaneState). put g n (f n (g n))) e ∙ each_more n f before)
+
+pub each_none : (f : ℕ → LaneState → LaneState) (l : ℕ → LaneState) → each 0 f l ≡ l
+each_none f l = same_lanes (each 0 f l) l (λ j. ap (λ b. cond b (f j (l j)) (l j)) (le-ltb j 0 (omega arith)))
+
 -- ---- places
 
 pub inside : (r n lanes j : ℕ) → r < n → j < lanes → r * lanes + j < n * lanes
@@ -49,6 +79,7 @@ apart r q lanes i j h k e = elim (cases_eq q r) as (λ _. q ≡ r) [
   where
     either : (a b : ℕ) → a ≢ b → (a + 1 ≤ b) ⊎ (b + 1 ≤ a)
     either a b d = elim (cases_lt a b) as (λ _. (a + 1 ≤ b) ⊎ (b + 1 ≤ a)) [ inl s ↦ inl (omega (arith, s)) | inr s ↦ inr (omega (arith, s, d)) ]
+
     differ : (q + 1 ≤ r) ⊎ (r + 1 ≤ q) → ⊥
     differ (inl s) = let f : lanes * (q + 1) ≤ lanes * r = mul-le-mul_left lanes s in omega (arith, e, f, h, k)
     differ (inr s) = let f : lanes * (r + 1) ≤ lanes * q = mul-le-mul_left lanes s in omega (arith, e, f, h, k)
@@ -147,6 +178,7 @@ module _ (lanes registers : ℕ) (words : List Word) (stops : List (Option Stop)
         | inl s ↦ eq-eqb (registers + k) (registers + m) (omega (arith, s)) ∙ sym (eq-eqb k m s)
         | inr d ↦ ne_eqb (registers + k) (registers + m) (λ e. d (omega (arith, e))) ∙ sym (ne_eqb k m d)
       ]
+
       reg : (i q : ℕ) → cond (nat_lt i lanes && nat_lt q registers) (pattern_at (set words (place_of lanes (registers + m) j) w) (place_of lanes q i)) 0 ≡ cond (nat_lt i lanes && nat_lt q registers) (pattern_at words (place_of lanes q i)) 0
       reg i q = reg_kept w.0 _ _ (nat_lt i lanes) (nat_lt q registers) (q == (registers + m)) (i == j) (read (registers + m) len q i)
           (λ a b. off_and (q == (registers + m)) (i == j) (ne_eqb q (registers + m) (λ e. omega (arith, e, ltb-true q registers b))))
