@@ -1,11 +1,10 @@
 -- A lane after an operator.
 use Rattle.std.proofs.Common.{◌≡◌, ℕ, ◌^◌, ◌<◌, ℤ, Result, Ok, Err, IfOk, ap, sym, ◌∙◌, rules}
 use Rattle.vk_types.specs.declared.types.Ty.{Ty}
-use Rattle.vk_types.specs.declared.types.Ty.TheVariants.{I8, I16, I32, I64, U8, U16, U32, U64}
 use Rattle.vk_types.specs.declared.types.Stop.{Stop}
 use Rattle.vk_types.specs.declared.types.Word.{Word}
 use Rattle.vk_types.specs.Numbers.{IsCanonical, number_of, word_of}
-use Rattle.vk_types.specs.Operators.{HasNumber, result_type}
+use Rattle.vk_types.specs.Operators.{HasNumber}
 use Rattle.vk_object.specs.Lane.{LaneState, with_reg}
 use Rattle.vk_steps.specs.Locals.{with_number}
 use Rattle.vk_steps.specs.Inner.Results.{with_result}

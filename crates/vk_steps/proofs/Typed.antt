@@ -8,14 +8,13 @@ use Rattle.vk_types.specs.Formats.{type_number}
 use Rattle.vk_kinds.specs.declared.heads.CType.{CType}
 use Rattle.vk_kinds.specs.declared.heads.CType.TheVariants.{Void, Int, Ptr}
 use Rattle.vk_code.specs.declared.env.ObjectHead.{ObjectHead}
-use Rattle.vk_code.specs.declared.instruction.Operation.{Operation}
-use Rattle.vk_code.specs.declared.instruction.Operation.TheVariants.{Const, Copy, Convert, Binary, Compare, Unary, Lane, Load, Store, PtrAdd, Addr, MaskOf, MaskAnd, MaskOr, MaskBut, Loop, Call, Print, SimdLoop}
+use Rattle.vk_code.specs.declared.instruction.Operation.TheVariants.{Const, Copy, Convert, Binary, Compare, Unary, Lane, Load, Store, PtrAdd, Addr, MaskOf, Print}
 use Rattle.vk_code.specs.Listing.{Routine, number_of_some, reg_type}
 use Rattle.vk_code.specs.Tests.{holds}
-use Rattle.vk_code.specs.Valid.{Environment, address_type, are_masks, is_canonical, is_copy, is_integer, is_load, is_moved, is_pointer, is_promoted, is_right, is_shift, is_store, is_typed, is_written, is_written_mask}
+use Rattle.vk_code.specs.Valid.{Environment, address_type, are_masks, is_canonical, is_integer, is_pointer, is_promoted, is_right, is_shift, is_typed, is_written, is_written_mask}
 use Rattle.vk_code.proofs.Faults.{and_left, and_right}
 use Rattle.vk_object.specs.Lane.{element_of, ty_at}
-use Rattle.vk_runs.proofs.Words.{number_small, ty_of_number}
+use Rattle.vk_runs.proofs.Words.{number_small}
 
 -- ---- registers that have a type
 

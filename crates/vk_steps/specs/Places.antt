@@ -2,6 +2,8 @@
 use Rattle.std.specs.Prelude.{◌≡◌, ℕ, ◌^◌, ◌<◌, ◌≤◌, max, true, List, length, map, Some, slice_get}
 use Rattle.vk_kinds.specs.declared.heads.CType.{CType}
 use Rattle.vk_code.specs.declared.instruction.Operation.{Operation}
+use Rattle.vk_code.specs.declared.instruction.Instr.{Instr}
+use Rattle.vk_code.specs.Instruction.{operation_of}
 use Rattle.vk_code.specs.Listing.{Listing, listing_of}
 use Rattle.vk_code.specs.Valid.{is_typed}
 use Rattle.vk_object.specs.declared.image.Image.{Image}
@@ -65,3 +67,9 @@ pub record FitsPlace (p : Place) (frame : Frame) : Type 0 where
 -- the operation has its types
 abbrev pub IsTyped : Place → Operation → Type 0
 IsTyped p o = is_typed (names_of (tables p)) (listing p).routine o ≡ true
+
+-- the instruction stands for the operation, which has its types, under a mask that is there
+pub record IsGood (p : Place) (i : Instr) (o : Operation) : Type 0 where
+  pub is : operation_of i ≡ Some o
+  pub mask : i.m < (listing p).routine.masks
+  pub typed : IsTyped p o

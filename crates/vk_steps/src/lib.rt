@@ -3,6 +3,6 @@
 
 pub mod place;
 pub mod registers;
-
+pub mod rows;
 
 pub use place::Place;

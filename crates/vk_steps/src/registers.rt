@@ -108,7 +108,17 @@ pub fn convert_in(frame: &mut Frame<'_>, code: &Code, m: u16, d: u16, a: u16, la
 }
 
 /// `d := a op b`, where `a` is of type `ty`; a divisor of 0 stops the lane.
-pub fn binary(frame: &mut Frame<'_>, code: &Code, m: u16, op: Op2, ty: Ty, d: u16, a: u16, b: u16, lane: usize)
+pub fn binary(
+    frame: &mut Frame<'_>,
+    code: &Code,
+    m: u16,
+    op: Op2,
+    ty: Ty,
+    d: u16,
+    a: u16,
+    b: u16,
+    lane: usize,
+)
     requires fits { IsFrame frame.old }
     requires mask { m < frame.old.masks }
     requires lane { lane < frame.old.lanes }
@@ -128,7 +138,17 @@ pub fn binary(frame: &mut Frame<'_>, code: &Code, m: u16, op: Op2, ty: Ty, d: u1
 }
 
 /// `d := a op b` of a comparison, where `a` and `b` are of type `ty`.
-pub fn compare(frame: &mut Frame<'_>, code: &Code, m: u16, op: Op2, ty: Ty, d: u16, a: u16, b: u16, lane: usize)
+pub fn compare(
+    frame: &mut Frame<'_>,
+    code: &Code,
+    m: u16,
+    op: Op2,
+    ty: Ty,
+    d: u16,
+    a: u16,
+    b: u16,
+    lane: usize,
+)
     requires fits { IsFrame frame.old }
     requires mask { m < frame.old.masks }
     requires lane { lane < frame.old.lanes }
@@ -147,7 +167,16 @@ pub fn compare(frame: &mut Frame<'_>, code: &Code, m: u16, op: Op2, ty: Ty, d: u
 }
 
 /// `d := op a`, where `a` is of type `ty`.
-pub fn unary(frame: &mut Frame<'_>, code: &Code, m: u16, op: Op1, ty: Ty, d: u16, a: u16, lane: usize)
+pub fn unary(
+    frame: &mut Frame<'_>,
+    code: &Code,
+    m: u16,
+    op: Op1,
+    ty: Ty,
+    d: u16,
+    a: u16,
+    lane: usize,
+)
     requires fits { IsFrame frame.old }
     requires mask { m < frame.old.masks }
     requires lane { lane < frame.old.lanes }

@@ -1,4 +1,4 @@
-use Rattle.std.proofs.Common.{◌≡◌, ap, ap₂, ◌∙◌}
+use Rattle.std.proofs.Common.{ap, ap₂, ◌∙◌}
 use Rattle.vk_types.specs.Numbers.{number_of}
 use Rattle.vk_types.specs.Operators.{op2_number, result_type}
 use Rattle.vk_object.specs.Machine.{put}
