@@ -2,7 +2,7 @@
 use Rattle.std.specs.Prelude.{◌≡◌, ℕ, zero, ◌+◌, ◌-◌, ◌<◌, ◌≤◌, true, length, drop, Option, None, Some, slice_get}
 use Rattle.vk_code.specs.declared.instruction.Instr.{Instr}
 use Rattle.vk_code.specs.declared.instruction.Operation.{Operation}
-use Rattle.vk_code.specs.declared.instruction.Operation.TheVariants.{Call, SimdLoop}
+use Rattle.vk_code.specs.declared.instruction.Operation.TheVariants.{Const, Copy, Convert, Binary, Compare, Unary, Lane, Load, Store, PtrAdd, Addr, MaskOf, MaskAnd, MaskOr, MaskBut, Loop, Call, Print, SimdLoop}
 use Rattle.vk_code.specs.Instruction.{block_of, operation_of}
 use Rattle.vk_code.specs.Tests.{all_good}
 use Rattle.vk_code.specs.Valid.{instr_verdicts}
@@ -13,6 +13,28 @@ use Rattle.vk_steps.specs.Places.{IsGood, listing, tables}
 use Rattle.vk_access.specs.Accesses.{is_access}
 use Rattle.vk_calls.specs.declared.fetch.Fetched.{Fetched}
 use Rattle.vk_calls.specs.declared.fetch.Fetched.TheVariants.{Block, Calls, Simd, Accesses, Locals}
+
+-- an instruction, by how its operation is performed
+abbrev pub sorted : Instr → Operation → Fetched
+sorted i (Const t d value) = Locals i (Const t d value)
+sorted i (Copy d a) = Locals i (Copy d a)
+sorted i (Convert d a) = Locals i (Convert d a)
+sorted i (Binary op t d a b) = Locals i (Binary op t d a b)
+sorted i (Compare op t d a b) = Locals i (Compare op t d a b)
+sorted i (Unary op t d a) = Locals i (Unary op t d a)
+sorted i (Lane d) = Locals i (Lane d)
+sorted i (Load d a) = Accesses i (Load d a)
+sorted i (Store a b) = Accesses i (Store a b)
+sorted i (PtrAdd d a b) = Locals i (PtrAdd d a b)
+sorted i (Addr d object) = Locals i (Addr d object)
+sorted i (MaskOf d a) = Locals i (MaskOf d a)
+sorted i (MaskAnd d a b) = Locals i (MaskAnd d a b)
+sorted i (MaskOr d a b) = Locals i (MaskOr d a b)
+sorted i (MaskBut d a b) = Locals i (MaskBut d a b)
+sorted i (Loop count) = Block i.m count
+sorted i (Call slot) = Calls i slot
+sorted i (Print a) = Accesses i (Print a)
+sorted i (SimdLoop number) = Simd i number
 
 -- the `count` instructions from `from` on are good, and their blocks end among them
 pub record IsPart (p : Place) (from count : ℕ) : Type 0 where

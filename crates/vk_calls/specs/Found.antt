@@ -1,7 +1,7 @@
 -- The entries that a slot and a simd loop call.
-use Rattle.std.specs.Prelude.{◌≡◌, ℕ, ◌<◌, true, Some, slice_get}
+use Rattle.std.specs.Prelude.{◌≡◌, ℕ, ◌<◌, true, length, Some, slice_get}
 use Rattle.vk_code.specs.Listing.{CallSite, call_site_of, simd_site_of}
-use Rattle.vk_object.specs.Images.{has_loop_types, has_slot_types}
+use Rattle.vk_object.specs.Images.{has_loop_types, has_slot_types, is_within}
 use Rattle.vk_object.specs.Machine.{enters, entry_at, simd_of, target_of}
 use Rattle.vk_steps.specs.declared.place.Place.{Place}
 use Rattle.vk_steps.specs.Places.{IsSound, entry, listing, site, tables}
@@ -16,6 +16,11 @@ pub record IsCallee (p q : Place) : Type 0 where
   pub turns : q.turns ≡ p.turns
   pub deeper : q.depth < p.depth
   pub does : entry_at (tables p) p.turns p.depth q.number ≡ enters q.number (site q)
+
+-- an entry of the image, with chains of calls that the place allows
+pub record IsCalled (p : Place) (n : ℕ) : Type 0 where
+  pub there : n < length (tables p).entries
+  pub within : is_within (tables p) p.depth n ≡ true
 
 -- the call of slot k
 pub record IsFound (p : Place) (k : ℕ) (found : Found) : Type 0 where

@@ -2,14 +2,13 @@
 
 ghost use Rattle.std.specs.Prelude.{◌≡◌, ◌+◌, ◌<◌, ◌≤◌};
 ghost use Rattle.vk_steps.specs.Places.{IsSound, listing};
-ghost use Rattle.vk_access.specs.Accesses.{is_access};
-ghost use Rattle.vk_calls.specs.Fetched.{IsFetched, IsPart};
+ghost use Rattle.vk_calls.specs.Fetched.{IsFetched, IsPart, sorted};
 
 use vk_code::{Instr, Operation};
 use vk_steps::Place;
 
 /// An instruction, by how it is performed.
-#[derive(Clone, Copy, PartialEq, Eq, Debug)]
+#[derive(Clone, Copy)]
 pub enum Fetched {
     /// A block under a mask, of so many instructions.
     Block(u16, u32),
@@ -31,24 +30,35 @@ pub fn fetch(place: &Place<'_>, at: usize, left: usize) -> Fetched
     ensures { IsFetched place.now at left result }
 {
     let instr = place.code.instrs[at];
-    match instr.operation() {
-        Some(Operation::Loop { count }) => Fetched::Block(instr.m, count),
-        Some(Operation::Call { slot }) => Fetched::Calls(instr, slot),
-        Some(Operation::SimdLoop { number }) => Fetched::Simd(instr, number),
-        Some(operation) => {
-            if is_access(operation) {
-                Fetched::Accesses(instr, operation)
-            } else {
-                Fetched::Locals(instr, operation)
-            }
-        }
-        None => unreachable!(),
-    }
+    let Some(operation) = instr.operation() else {
+        unreachable!();
+    };
+    sort(instr, operation)
 }
 
-// Whether it reads or writes an element, or prints.
-fn is_access(operation: Operation) -> bool
-    ensures { result ≡ is_access operation }
+// An instruction, by how its operation is performed.
+fn sort(instr: Instr, operation: Operation) -> Fetched
+    ensures { result ≡ sorted instr operation }
 {
-    matches!(operation, Operation::Load { .. } | Operation::Store { .. } | Operation::Print { .. })
+    match operation {
+        Operation::Const { .. } => Fetched::Locals(instr, operation),
+        Operation::Copy { .. } => Fetched::Locals(instr, operation),
+        Operation::Convert { .. } => Fetched::Locals(instr, operation),
+        Operation::Binary { .. } => Fetched::Locals(instr, operation),
+        Operation::Compare { .. } => Fetched::Locals(instr, operation),
+        Operation::Unary { .. } => Fetched::Locals(instr, operation),
+        Operation::Lane { .. } => Fetched::Locals(instr, operation),
+        Operation::Load { .. } => Fetched::Accesses(instr, operation),
+        Operation::Store { .. } => Fetched::Accesses(instr, operation),
+        Operation::PtrAdd { .. } => Fetched::Locals(instr, operation),
+        Operation::Addr { .. } => Fetched::Locals(instr, operation),
+        Operation::MaskOf { .. } => Fetched::Locals(instr, operation),
+        Operation::MaskAnd { .. } => Fetched::Locals(instr, operation),
+        Operation::MaskOr { .. } => Fetched::Locals(instr, operation),
+        Operation::MaskBut { .. } => Fetched::Locals(instr, operation),
+        Operation::Loop { count } => Fetched::Block(instr.m, count),
+        Operation::Call { slot } => Fetched::Calls(instr, slot),
+        Operation::Print { .. } => Fetched::Accesses(instr, operation),
+        Operation::SimdLoop { number } => Fetched::Simd(instr, number),
+    }
 }

@@ -1,8 +1,8 @@
 // The entries that a slot and a simd loop call.
 
-ghost use Rattle.std.specs.Prelude.{◌<◌, length};
+ghost use Rattle.std.specs.Prelude.{◌≡◌, ◌<◌, length};
 ghost use Rattle.vk_steps.specs.Places.{IsSound, listing};
-ghost use Rattle.vk_calls.specs.Found.{IsFound, IsFoundSimd};
+ghost use Rattle.vk_calls.specs.Found.{IsCallee, IsCalled, IsFound, IsFoundSimd};
 
 use vk_code::code::{LoopSite, Slot};
 use vk_steps::Place;
@@ -30,7 +30,8 @@ pub struct FoundSimd<'a> {
 
 // Where an entry that is called runs.
 fn callee<'a>(place: &Place<'a>, number: u32) -> Place<'a>
-    requires { IsCalled place.now number }
+    requires sound { IsSound place.now }
+    requires called { IsCalled place.now number }
     ensures callee { IsCallee place.now result }
     ensures number { result.number ≡ number }
 {
@@ -60,13 +61,19 @@ pub fn find<'a>(place: &Place<'a>, slot: u32) -> Found<'a>
 /// The entries of a simd loop.
 pub fn find_simd<'a>(place: &Place<'a>, number: u32) -> FoundSimd<'a>
     requires sound { IsSound place.now }
-    requires loop { number < (listing place.now).routine.loops }
+    requires number { number < (listing place.now).routine.loops }
     ensures { IsFoundSimd place.now number result }
 {
     let site = &place.code.loops[number as usize];
     let targets = place.entry.loops[number as usize];
     FoundSimd {
-        chunk: Body { site, place: callee(place, targets.chunk) },
-        rest: Body { site, place: callee(place, targets.rest) },
+        chunk: Body {
+            site,
+            place: callee(place, targets.chunk),
+        },
+        rest: Body {
+            site,
+            place: callee(place, targets.rest),
+        },
     }
 }

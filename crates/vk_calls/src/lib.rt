@@ -3,5 +3,3 @@
 
 pub mod fetch;
 pub mod found;
-pub mod simd;
-pub mod words;
