@@ -134,7 +134,8 @@ fn store_in(
     ensures lanes { lanes_of frame.new ≡ put (lanes_of frame.old) lane (live_as m (lanes_of frame.old lane) (storing (lanes_of frame.old lane) (cell_of (extents place.now.image.now) ((lanes_of frame.old lane).reg a)))) }
     ensures cells { cells_in memory.new.cells.items ≡ cond (is_live m (lanes_of frame.old lane)) (stored_cells (cells_in memory.old.cells.items) (number_at (regs place.now) (lanes_of frame.old lane) b) (cell_of (extents place.now.image.now) ((lanes_of frame.old lane).reg a))) (cells_in memory.old.cells.items) }
 {
-    if !frame.is_live(m, lane) {
+    let is_live = frame.is_live(m, lane);
+    if !is_live {
         return;
     }
     let from = ty_at(place.code, b);
