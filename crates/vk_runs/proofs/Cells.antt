@@ -32,7 +32,7 @@ cell_there arrays p c e = by (slice_get arrays (array_of p)) refl e
     by None found f = absurd (none-some c f)
     by (Some x) found f = inside x found (nat_lt (p % 2 ^ 32) (2 ^ 31) && nat_lt (p % 2 ^ 32) x.length) f
 
-stored : (arrays : List Extent) (m : Memory) (p : ℕ) (z : ℤ) (c : Cell) → cell_of arrays p ≡ Some c → HaveCells arrays m → HaveCells arrays (with_cell m c.array c.index (word_of (wrap_number c.ty z)))
+pub stored : (arrays : List Extent) (m : Memory) (p : ℕ) (z : ℤ) (c : Cell) → cell_of arrays p ≡ Some c → HaveCells arrays m → HaveCells arrays (with_cell m c.array c.index (word_of (wrap_number c.ty z)))
 stored arrays m p z c e h a i x found = by ((a == c.array) && (i == c.index)) (λ t. eqb-true a c.array (and_left (a == c.array) (i == c.index) t))
   where
     there : IsOf arrays c

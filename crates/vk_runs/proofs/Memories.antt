@@ -67,7 +67,7 @@ module _ (arrays : List Extent) (R : Memory → Memory → Type 0) (same : (m : 
   view_keeps m a b true g h = g
   view_keeps m a b false g h = h
 
-  acts_keep : (regs : List CType) (m j : ℕ) (o : Operation) (v : View) → R v.mem (acts arrays regs m j o v).mem
+  pub acts_keep : (regs : List CType) (m j : ℕ) (o : Operation) (v : View) → R v.mem (acts arrays regs m j o v).mem
   acts_keep regs m j (MaskOf d a) v = same v.mem
   acts_keep regs m j (MaskAnd d a b) v = same v.mem
   acts_keep regs m j (MaskOr d a b) v = same v.mem
@@ -90,7 +90,7 @@ module _ (arrays : List Extent) (R : Memory → Memory → Type 0) (same : (m : 
   abbrev pub KeepsMemory : Called → Type 0
   KeepsMemory called = (on : ℕ → Bool) (args : ℕ → ℕ → ℕ) (mem : Memory) → R mem (called on args mem).mem
 
-  target_keeps : (s : Site) (m : ℕ) → ((n : ℕ) → KeepsMemory (s.calls n)) → (o : Option Target) (w : World) → R w.mem (calls_target s m o w).mem
+  pub target_keeps : (s : Site) (m : ℕ) → ((n : ℕ) → KeepsMemory (s.calls n)) → (o : Option Target) (w : World) → R w.mem (calls_target s m o w).mem
   target_keeps s m h None w = same w.mem
   target_keeps s m h (Some t) w = world_keeps w.mem (sweep s.entry.lanes (call_one m t.slot (s.calls t.number)) w) (call_all s m t.slot t.entry (s.calls t.number) w) (t.entry.lanes == 1)
       (sweep_keeps s.entry.lanes (call_one m t.slot (s.calls t.number))
@@ -113,7 +113,7 @@ module _ (arrays : List Extent) (R : Memory → Memory → Type 0) (same : (m : 
   turn_keeps m g next None h k = then m g.mem next.mem h k
   turn_keeps m g next (Some x) h k = h
 
-  turns_keep : (called : Called) (args : ℕ → ℕ → ℕ → ℕ) (lanes : ℕ) → KeepsMemory called → (count c : ℕ) (mem : Memory) → R mem (calls_in_turn called args lanes count c mem).mem
+  pub turns_keep : (called : Called) (args : ℕ → ℕ → ℕ → ℕ) (lanes : ℕ) → KeepsMemory called → (count c : ℕ) (mem : Memory) → R mem (calls_in_turn called args lanes count c mem).mem
   turns_keep called args lanes h zero c mem = same mem
   turns_keep called args lanes h (suc count) c mem =
       let g : Given = called (λ i. nat_lt i lanes) (args c) mem in
@@ -123,7 +123,7 @@ module _ (arrays : List Extent) (R : Memory → Memory → Type 0) (same : (m : 
   then_keeps m r next g h None = then m r.mem (next r.mem).mem g (h r.mem)
   then_keeps m r next g h (Some x) = g
 
-  calls_keep : (chunk rest : Called) (args : ℕ → ℕ → ℕ → ℕ → ℕ → ℕ) (lanes : ℕ) (fast : Bool) (n : ℕ) (mem : Memory) → KeepsMemory chunk → KeepsMemory rest → R mem (all_calls chunk rest args lanes fast n mem).mem
+  pub calls_keep : (chunk rest : Called) (args : ℕ → ℕ → ℕ → ℕ → ℕ → ℕ) (lanes : ℕ) (fast : Bool) (n : ℕ) (mem : Memory) → KeepsMemory chunk → KeepsMemory rest → R mem (all_calls chunk rest args lanes fast n mem).mem
   calls_keep chunk rest args lanes true n mem g h =
       let r : Ran = calls_in_turn chunk (args lanes 0) lanes (n / lanes) 0 mem in
       then_keeps mem r (λ m. calls_in_turn rest (args 1 (n / lanes * lanes)) 1 (n % lanes) 0 m) (turns_keep chunk (args lanes 0) lanes g (n / lanes) 0 mem) (λ m. turns_keep rest (args 1 (n / lanes * lanes)) 1 h (n % lanes) 0 m) r.stop
@@ -136,7 +136,7 @@ module _ (arrays : List Extent) (R : Memory → Memory → Type 0) (same : (m : 
   after_keeps n turns v r None g = g
   after_keeps n turns v r (Some x) g = g
 
-  simd_keeps : (s : Site) (m : ℕ) → ((n : ℕ) → KeepsMemory (s.calls n)) → (o : Option Simd) (w : World) → R w.mem (runs_simd s m o w).mem
+  pub simd_keeps : (s : Site) (m : ℕ) → ((n : ℕ) → KeepsMemory (s.calls n)) → (o : Option Simd) (w : World) → R w.mem (runs_simd s m o w).mem
   simd_keeps s m h None w = same w.mem
   simd_keeps s m h (Some l) w =
       let v : View = record { lane = w.lane 0; mem = w.mem } in
@@ -153,11 +153,11 @@ module _ (arrays : List Extent) (R : Memory → Memory → Type 0) (same : (m : 
   performs_keep s at m h (SimdLoop k) w = simd_keeps s m h (simd_of s k) w
   performs_keep s at m h o w = sweep_keeps s.entry.lanes (λ j v. acts s.arrays s.code.routine.regs m j o v) (λ j v. subst (λ xs. R v.mem (acts xs s.code.routine.regs m j o v).mem) (sym at) (acts_keep s.code.routine.regs m j o v)) w
 
-  some_keeps : (s : Site) → s.arrays ≡ arrays → (m : ℕ) → ((n : ℕ) → KeepsMemory (s.calls n)) → (o : Option Operation) (w : World) → R w.mem (performs_some s m o w).mem
+  pub some_keeps : (s : Site) → s.arrays ≡ arrays → (m : ℕ) → ((n : ℕ) → KeepsMemory (s.calls n)) → (o : Option Operation) (w : World) → R w.mem (performs_some s m o w).mem
   some_keeps s at m h None w = same w.mem
   some_keeps s at m h (Some o) w = performs_keep s at m h o w
 
-  again_keeps : (lanes m : ℕ) (block : World → World) → ((w : World) → R w.mem (block w).mem) → (n : ℕ) (w : World) → R w.mem (again lanes m block n w).mem
+  pub again_keeps : (lanes m : ℕ) (block : World → World) → ((w : World) → R w.mem (block w).mem) → (n : ℕ) (w : World) → R w.mem (again lanes m block n w).mem
   again_keeps lanes m block h zero w = world_keeps w.mem (all_out_of_turns m w) w (any_live lanes m w.lane) (same w.mem) (same w.mem)
   again_keeps lanes m block h (suc n) w = world_keeps w.mem (again lanes m block n (block w)) w (any_live lanes m w.lane) (then w.mem (block w).mem (again lanes m block n (block w)).mem (h w) (again_keeps lanes m block h n (block w))) (same w.mem)
 
@@ -171,7 +171,7 @@ module _ (arrays : List Extent) (R : Memory → Memory → Type 0) (same : (m : 
       let v : World = again s.entry.lanes i.m (λ v. run s is zero x v) s.turns w in
       then w.mem v.mem (run s is x (n - x) v).mem (again_keeps s.entry.lanes i.m (λ v. run s is zero x v) (k zero x) s.turns w) (k x (n - x) v)
 
-  run_keeps : (s : Site) → s.arrays ≡ arrays → ((k : ℕ) → KeepsMemory (s.calls k)) → (is : List Instr) (skip count : ℕ) (w : World) → R w.mem (run s is skip count w).mem
+  pub run_keeps : (s : Site) → s.arrays ≡ arrays → ((k : ℕ) → KeepsMemory (s.calls k)) → (is : List Instr) (skip count : ℕ) (w : World) → R w.mem (run s is skip count w).mem
   run_keeps s at h [] skip count w = same w.mem
   run_keeps s at h (i ∷ is) (suc skip) count w = run_keeps s at h is skip count w
   run_keeps s at h (i ∷ is) zero zero w = same w.mem
@@ -179,7 +179,7 @@ module _ (arrays : List Extent) (R : Memory → Memory → Type 0) (same : (m : 
 
   -- ---- entries
 
-  enters_keeps : (e : ℕ) (s : Site) → s.arrays ≡ arrays → ((k : ℕ) → KeepsMemory (s.calls k)) → KeepsMemory (enters e s)
+  pub enters_keeps : (e : ℕ) (s : Site) → s.arrays ≡ arrays → ((k : ℕ) → KeepsMemory (s.calls k)) → KeepsMemory (enters e s)
   enters_keeps e s at h on args mem =
       then mem (logged (Calls e) mem) (enters e s on args mem).mem (noted (Calls e) mem)
       (run_keeps s at h s.code.routine.instrs zero (length s.code.routine.instrs) (record { lane = first_lane s.entry.lanes s.code.routine.params args on; mem = logged (Calls e) mem }))

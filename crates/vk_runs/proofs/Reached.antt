@@ -38,10 +38,10 @@ holds_at p o x h e = ap (holds p) (sym e) ∙ h
 
 -- ---- the image
 
-record Parts (rows codes links : Bool) : Type 0 where
-  rows_good : rows ≡ true
-  codes_good : codes ≡ true
-  links_good : links ≡ true
+pub record Parts (rows codes links : Bool) : Type 0 where
+  pub rows_good : rows ≡ true
+  pub codes_good : codes ≡ true
+  pub links_good : links ≡ true
 
 parts : (a b c d e f g h i j k l : Bool) → (a && b && c && d && e && f && g && h && i && j && k && l) ≡ true → Parts e h i
 parts a b c d e f g h i j k l t =
@@ -50,7 +50,7 @@ parts a b c d e f g h i j k l t =
     let five = and_left (a && b && c && d && e) f (and_left (a && b && c && d && e && f) g (and_left (a && b && c && d && e && f && g) h eight)) in
     record { rows_good = and_right (a && b && c && d) e five; codes_good = and_right (a && b && c && d && e && f && g) h eight; links_good = and_right (a && b && c && d && e && f && g && h) i nine }
 
-image_parts : (image : Tables) → is_image image ≡ true → Parts (list_all (is_row image) image.entries) (list_all (is_code image) image.codes) (list_all (is_entry image) image.entries)
+pub image_parts : (image : Tables) → is_image image ≡ true → Parts (list_all (is_row image) image.entries) (list_all (is_code image) image.codes) (list_all (is_entry image) image.entries)
 image_parts image h =
     parts (is_letter image.target image.isa) (is_vl image.isa image.vl) (list_all is_array image.arrays) (ascend array_before image.arrays) (list_all (is_row image) image.entries) (ascend entry_before image.entries)
     (is_some_entry image image.main) (list_all (is_code image) image.codes) (list_all (is_entry image) image.entries) (is_main image image.main) (list_all (is_within image 64) (entry_numbers image)) (nat_le (cells_of image) 33554432) h
@@ -62,7 +62,7 @@ few kind n h = either (is_variant kind || is_chunk kind) h
     either true e = leb-true n 256 (and_right (nat_le 2 n) (nat_le n 256) e)
     either false e = omega (arith, eqb-true n 1 e)
 
-row_lanes : (image : Tables) (x : EntryLists) (a b c d e f g : Bool) → (a && b && c && d && e && f && g) ≡ true → c ≡ true
+pub row_lanes : (image : Tables) (x : EntryLists) (a b c d e f g : Bool) → (a && b && c && d && e && f && g) ≡ true → c ≡ true
 row_lanes image x a b c d e f g h = and_right (a && b) c (and_left (a && b && c) d (and_left (a && b && c && d) e (and_left (a && b && c && d && e) f (and_left (a && b && c && d && e && f) g h))))
 
 -- an entry has at most 256 lanes

@@ -1,0 +1,5 @@
+pub mod Found
+pub mod Laned
+pub mod Leading
+pub mod Sweeping
+pub mod Words

@@ -1,0 +1,4 @@
+pub mod Accesses
+pub mod Cells
+pub mod Outer
+pub mod Stores

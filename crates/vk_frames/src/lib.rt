@@ -1,0 +1,7 @@
+//! The registers and masks of calls, in one list of words.
+#![tactic(auto)]
+
+pub mod frame;
+pub mod lanes;
+
+pub use frame::Frame;

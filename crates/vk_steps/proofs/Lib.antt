@@ -1,0 +1,4 @@
+pub mod Fitting
+pub mod Locals
+pub mod Results
+pub mod Typed
