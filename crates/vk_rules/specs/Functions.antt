@@ -20,4 +20,4 @@ functions_of unit = functions_from unit.texts [] unit.items
 
 -- the number of directives of the function with this number
 abbrev pub directives_at : Subject → ℕ → ℕ
-directives_at unit f = option_map_or (λ (g : FunctionTree). length g.directives) 0 (slice_get (functions_of unit) f)
+directives_at unit f = option_map_or (λ (g : FunctionTree). length g.directives) (slice_get (functions_of unit) f) 0

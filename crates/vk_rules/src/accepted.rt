@@ -8,12 +8,19 @@ ghost use Rattle.vk_rules_book.specs.Directives.{signatures};
 ghost use Rattle.vk_rules_book.specs.Scopes.{text_of};
 ghost use Rattle.vk_rules_book.specs.Signatures.{head_of};
 ghost use Rattle.vk_rules.specs.Functions.{directives_at, functions_of};
-ghost use Rattle.vk_rules.specs.Verdicts.{subject_of};
+ghost use Rattle.vk_rules.specs.Verdicts.{judged};
 
 use crate::entries::Entry;
 use std::marker::Model;
 use vk_ast::{Unit, NameId};
 use vk_kinds::{Head, Signature, Target};
+
+/// A unit of C, and what it is compiled for.
+#[derive(Drop)]
+pub struct Source {
+    pub unit: Unit,
+    pub target: Target,
+}
 
 /// A unit that breaks none of the rules C8 to C18 and D1 to D19, and what it is compiled for.
 ///
@@ -21,78 +28,82 @@ use vk_kinds::{Head, Signature, Target};
 /// its first declaration says.
 #[derive(Drop)]
 pub struct Checked {
-    pub(crate) unit: Unit,
-    pub(crate) target: Target,
+    pub(crate) source: Source,
     pub(crate) entries: Vec<Entry>,
 }
 
 impl Model for Checked {
+    ghost use Rattle.std.specs.Coded.{codes};
     ghost use Rattle.std.specs.Prelude.{◌≡◌, []};
-    ghost use Rattle.vk_rules_book.specs.Rules.{Subject, faults_of};
+    ghost use Rattle.vk_rules_book.specs.Rules.{faults_of};
+    ghost use Rattle.vk_rules.specs.contracts.accepted.Source as code;
+    ghost use Rattle.vk_rules.specs.declared.accepted.Source.{Source};
     ghost use Rattle.vk_rules.specs.Entries.{AreEntries};
     ghost use Rattle.vk_rules.specs.Functions.{functions_of};
-    ghost use Rattle.vk_rules.specs.Verdicts.{subject_of};
+    ghost use Rattle.vk_rules.specs.Verdicts.{judged};
 
-    ghost Value = { Subject };
+    ghost Value = { Source };
 
-    ghost view = { λ c. subject_of c.unit c.target };
+    ghost coded = { Prim.hlevel (codes, code.the_row.coded) };
 
-    ghost invariant = { λ c. (faults_of (subject_of c.unit c.target) ≡ []) × AreEntries (functions_of (subject_of c.unit c.target)) c.entries.items };
+    ghost view = { λ c. c.source };
+
+    ghost invariant = { λ c. (faults_of (judged c.source) ≡ []) × AreEntries (functions_of (judged c.source)) c.entries.items };
 }
 
 impl Checked {
     /// The number of its functions.
     pub fn functions(&self) -> usize
-        ensures { result ≡ length (functions_of self.now) }
+        ensures { result ≡ length (functions_of (judged self.now)) }
     {
         self.entries.len()
     }
 
     /// The types of a function.
     pub fn head(&self, f: usize) -> &Head
-        requires { f < length (functions_of self.now) }
-        ensures { IfSome (slice_get (functions_of self.now) f) (λ (g : FunctionTree). head_types result.now ≡ head_of g) }
+        requires { f < length (functions_of (judged self.now)) }
+        ensures { IfSome (slice_get (functions_of (judged self.now)) f) (λ (g : FunctionTree). head_types result.now ≡ head_of g) }
     {
         &self.entries[f].head
     }
 
     /// The name of a function.
     pub fn name(&self, f: usize) -> &[u8]
-        requires { f < length (functions_of self.now) }
-        ensures { IfSome (slice_get (functions_of self.now) f) (λ (g : FunctionTree). result.now ≡ text_of self.now.texts g.name) }
+        requires { f < length (functions_of (judged self.now)) }
+        ensures { IfSome (slice_get (functions_of (judged self.now)) f) (λ (g : FunctionTree). result.now ≡ text_of (judged self.now).texts g.name) }
     {
-        text(&self.unit, self.entries[f].name)
+        text(&self.source.unit, self.entries[f].name)
     }
 
     /// The number of a function's directives.
     pub fn directives(&self, f: usize) -> usize
-        requires { f < length (functions_of self.now) }
-        ensures { result ≡ directives_at self.now f }
+        requires { f < length (functions_of (judged self.now)) }
+        ensures { result ≡ directives_at (judged self.now) f }
     {
         self.entries[f].signatures.len()
     }
 
     /// What a directive of a function says.
     pub fn signature(&self, f: usize, d: usize) -> &Signature
-        requires function { f < length (functions_of self.now) }
-        requires directive { d < directives_at self.now f }
-        ensures { IfSome (slice_get (functions_of self.now) f) (λ (g : FunctionTree). slice_get (signatures g) d ≡ Some (signature_tree result.now)) }
+        requires function { f < length (functions_of (judged self.now)) }
+        requires directive { d < directives_at (judged self.now) f }
+        ensures { IfSome (slice_get (functions_of (judged self.now)) f) (λ (g : FunctionTree). slice_get (signatures g) d ≡ Some (signature_tree result.now)) }
     {
         &self.entries[f].signatures[d]
     }
 
     /// The unit.
     pub fn unit(&self) -> &Unit
-        ensures { subject_of result.now self.now.target ≡ self.now }
+        ensures { result.now ≡ self.now.unit }
     {
-        &self.unit
+        &self.source.unit
     }
 
     /// What it is compiled for.
     pub fn target(&self) -> Target
         ensures { result ≡ self.now.target }
     {
-        self.target
+        self.source.target
     }
 }
 

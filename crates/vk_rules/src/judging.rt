@@ -4,9 +4,9 @@ ghost use Rattle.std.specs.Prelude.{◌≡◌, ℕ, [], map, IfOk, IsErrOf};
 ghost use Rattle.vk_ast.specs.Units.{item_of};
 ghost use Rattle.vk_rules_book.specs.Rules.{faults_of};
 ghost use Rattle.vk_unit_rules.specs.declared.rules.UnitRule.{UnitRule as RuleOf};
-ghost use Rattle.vk_rules.specs.Verdicts.{IsRefused, IsVerdict, subject_of};
+ghost use Rattle.vk_rules.specs.Verdicts.{IsRefused, IsVerdict, judged, subject_of};
 
-use crate::accepted::Checked;
+use crate::accepted::{Checked, Source};
 use crate::entries::entries_of;
 use crate::fail::CheckFail;
 use std::alloc::Global;
@@ -39,8 +39,8 @@ fn first_fault(
 ///
 /// A refused unit is dropped.
 pub fn check(alloc: Global, unit: Unit, target: Target) -> Result<Checked, CheckFail>
-    ensures same { IfOk result (λ checked. checked ≡ subject_of unit target) }
-    ensures accepted { IfOk result (λ checked. faults_of checked ≡ []) }
+    ensures same { IfOk result (λ checked. checked ≡ record { unit = unit; target = target }) }
+    ensures accepted { IfOk result (λ checked. faults_of (judged checked) ≡ []) }
     ensures refused { (line directive : ℕ) (rule : RuleOf) → IsErrOf result (CheckFail.Rule line directive rule) →
         IsRefused (subject_of unit target) line directive rule }
 {
@@ -53,8 +53,7 @@ pub fn check(alloc: Global, unit: Unit, target: Target) -> Result<Checked, Check
         None => {
             let entries = entries_of(alloc, target, &unit.names, &unit.items)?;
             Ok(Checked {
-                unit,
-                target,
+                source: Source { unit, target },
                 entries,
             })
         }

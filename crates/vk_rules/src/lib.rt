@@ -7,7 +7,7 @@ pub mod fail;
 pub mod judging;
 pub mod listing;
 
-pub use accepted::Checked;
+pub use accepted::{Checked, Source};
 pub use fail::CheckFail;
 pub use judging::check;
 pub use listing::names;

@@ -5,6 +5,7 @@ ghost use Rattle.vk_kinds.specs.Sizes.{head_types, signature_tree};
 ghost use Rattle.vk_names.specs.Spelling.{IsScalar};
 ghost use Rattle.vk_variants.specs.Directives.{IsNamed, function_names};
 ghost use Rattle.vk_rules.specs.UnitNames.{HaveIdentifiers, unit_names};
+ghost use Rattle.vk_rules.specs.Verdicts.{judged};
 
 use crate::accepted::{Checked, text};
 use crate::entries::Entry;
@@ -16,19 +17,19 @@ use vk_variants::NameList;
 /// The vector names that the directives of a unit give: functions in the order of their first declarations, the directives of each
 /// in order, then letters in the order of the ABI, lengths, and N before M.
 pub fn names(alloc: Global, unit: &Checked) -> Result<NameList, Memory>
-    requires { HaveIdentifiers unit.now }
-    ensures { IfOk result (λ list. list ≡ unit_names unit.now) }
+    requires { HaveIdentifiers (judged unit.now) }
+    ensures { IfOk result (λ list. list ≡ unit_names (judged unit.now)) }
 {
     let mut list = NameList::new(alloc);
     for entry in &unit.entries {
-        add_function(&mut list, unit.target, text(&unit.unit, entry.name), entry)?;
+        add_function(&mut list, unit.source.target, text(&unit.source.unit, entry.name), entry)?;
     }
     Ok(list)
 }
 
 // Adds the names that the directives of a function give.
 fn add_function(list: &mut NameList, target: Target, scalar: &[u8], entry: &Entry) -> Result<(), Memory>
-    requires count { All (λ s. length entry.now.head.params.items ≡ length s.params) entry.now.signatures.items }
+    requires count { All (λ s. length entry.now.head.params.items ≡ length (signature_tree s).params) entry.now.signatures.items }
     requires in_range { All (λ s. IsNamed (signature_tree s)) entry.now.signatures.items }
     requires scalar { IsScalar scalar.now }
     ensures { OnOk result (list.new ≡ list.old
