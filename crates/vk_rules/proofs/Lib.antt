@@ -1,2 +1,5 @@
 mod Firsts
+mod Listed
 mod Parts
+mod Quiet
+mod Tests

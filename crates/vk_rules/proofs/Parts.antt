@@ -136,7 +136,7 @@ module _ (unit : Subject) where
 
 -- ---- the verdict
 
-all_faults : (unit : Subject) → faults_of unit ≡ faults unit (along (item_visits unit.texts) [] unit.items)
+pub all_faults : (unit : Subject) → faults_of unit ≡ faults unit (along (item_visits unit.texts) [] unit.items)
 unfolding faults_of
 all_faults unit = refl
 

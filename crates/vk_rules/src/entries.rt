@@ -1,10 +1,11 @@
 // The functions of a unit that breaks no rule.
 
-ghost use Rattle.std.specs.Prelude.{◌≡◌, ◌≤◌, ◌++◌, [], ℕ, List, length, map, true, is_some, IfOk, OnOk};
+ghost use Rattle.std.specs.Prelude.{◌≡◌, ◌≤◌, ◌∷◌, ◌++◌, ◌||◌, [], List, cond, length, map, true, is_some, IfOk, OnOk};
 ghost use Rattle.vk_kinds.specs.Sizes.{signature_tree};
 ghost use Rattle.vk_ast.specs.Units.{ItemTree, FunctionTree, function_of, item_of};
 ghost use Rattle.vk_rules_book.specs.Directives.{have_signatures, signatures};
 ghost use Rattle.vk_rules_book.specs.Rules.{faults_of};
+ghost use Rattle.vk_rules_book.specs.Scopes.{is_print};
 ghost use Rattle.vk_rules_names.specs.Seen.{number_at};
 ghost use Rattle.vk_rules.specs.Entries.{AreEntries, IsEntry};
 ghost use Rattle.vk_rules.specs.Functions.{function_at, functions_from};
@@ -61,18 +62,48 @@ fn is_declared(first: &[Option<usize>], id: NameId) -> bool
     }
 }
 
+// Whether the name is declared at the place, or is `print`.
+fn is_known(place: &Place, id: NameId) -> bool
+    ensures { result ≡ (is_some (number_at place.now.first.now id) || is_print place.now.names.now id) }
+{
+    is_declared(place.first, id) || place.with(&[], 0).is_print(id)
+}
+
+// Adds the entry of a function, unless its name is known.
+fn add_function(alloc: Global, known: bool, f: &Function, entries: &mut Vec<Entry>) -> Result<(), Memory>
+    requires sound { have_signatures (function_of f.now) ≡ true }
+    requires count { length f.now.params.items ≤ 64 }
+    ensures { (fs : List FunctionTree) → AreEntries fs entries.old.items →
+        OnOk result (AreEntries (fs ++ cond known [] (function_of f.now ∷ [])) entries.new.items) }
+{
+    if known {
+        return Ok(());
+    }
+    let entry = entry_of(alloc, f)?;
+    entries.push(entry)?;
+    Ok(())
+}
+
 // Adds the entry of an item that declares a function first.
-fn add_item(alloc: Global, place: &Place, item: &Item, entries: &mut Vec<Entry>) -> Result<(), Memory>
+fn add_item(
+    alloc: Global,
+    place: &Place,
+    item: &Item,
+    entries: &mut Vec<Entry>,
+) -> Result<(), Memory>
     requires { IsSound (item_of item.now) }
     ensures { (before : List ItemTree) → Knows place.now.first.now before → (fs : List FunctionTree) → AreEntries fs entries.old.items →
         OnOk result (AreEntries (fs ++ function_at place.now.names.now before (item_of item.now)) entries.new.items) }
 {
-    if let Item::Function(f) = item {
-        if !is_declared(place.first, f.name) && !place.with(&[], 0).is_print(f.name) {
-            entries.push(entry_of(alloc, f)?)?;
+    match item {
+        Item::Function(f) => {
+            let known = is_known(place, f.name);
+            add_function(alloc, known, f, entries)?;
+            Ok(())
         }
+        Item::Object(_) => Ok(()),
+        Item::Lost(_) => Ok(()),
     }
-    Ok(())
 }
 
 /// The entries of all functions of a unit that breaks no rule.

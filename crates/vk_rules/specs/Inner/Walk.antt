@@ -1,5 +1,5 @@
 -- The functions of a unit, one item after another.
-use Rattle.std.specs.Prelude.{◌≡◌, ⊤, ℕ, ◌≤◌, length, true, List, Option, is_some}
+use Rattle.std.specs.Prelude.{◌≡◌, ⊤, ◌≤◌, length, true, List, Option, ℕ, is_some}
 use Rattle.vk_ast.specs.declared.names.NameId.{NameId}
 use Rattle.vk_ast.specs.Units.{ItemTree, function, object, lost_line}
 use Rattle.vk_rules_book.specs.Directives.{have_signatures}
