@@ -3,3 +3,4 @@ mod Listed
 mod Parts
 mod Quiet
 mod Tests
+mod Told

@@ -1,12 +1,11 @@
 // Units that are accepted.
 
-ghost use Rattle.std.specs.Prelude.{◌≡◌, ◌<◌, length, slice_get, IfSome};
-ghost use Rattle.vk_ast.specs.declared.items.Unit.{Unit as UnitOfNames};
-ghost use Rattle.vk_ast.specs.Units.{FunctionTree};
+ghost use Rattle.std.specs.Prelude.{◌≡◌, ◌<◌, length, slice_get, IsSomeAnd};
 ghost use Rattle.vk_kinds.specs.Sizes.{head_types, signature_tree};
 ghost use Rattle.vk_rules_book.specs.Directives.{signatures};
 ghost use Rattle.vk_rules_book.specs.Scopes.{text_of};
 ghost use Rattle.vk_rules_book.specs.Signatures.{head_of};
+ghost use Rattle.vk_rules.specs.Entries.{IsEntry};
 ghost use Rattle.vk_rules.specs.Functions.{directives_at, functions_of};
 ghost use Rattle.vk_rules.specs.Verdicts.{judged};
 
@@ -39,7 +38,8 @@ impl Model for Checked {
     ghost use Rattle.vk_rules.specs.contracts.accepted.Source as code;
     ghost use Rattle.vk_rules.specs.declared.accepted.Source.{Source};
     ghost use Rattle.vk_rules.specs.Entries.{AreEntries};
-    ghost use Rattle.vk_rules.specs.Functions.{functions_of};
+    ghost use Rattle.vk_rules.specs.Entries.{IsEntry};
+ghost use Rattle.vk_rules.specs.Functions.{functions_of};
     ghost use Rattle.vk_rules.specs.Verdicts.{judged};
 
     ghost Value = { Source };
@@ -59,20 +59,28 @@ impl Checked {
         self.entries.len()
     }
 
+    // What is kept of a function.
+    fn entry(&self, f: usize) -> &Entry
+        requires { f < length (functions_of (judged self.now)) }
+        ensures { IsSomeAnd (slice_get (functions_of (judged self.now)) f) (λ g. IsEntry g result.now) }
+    {
+        &self.entries[f]
+    }
+
     /// The types of a function.
     pub fn head(&self, f: usize) -> &Head
         requires { f < length (functions_of (judged self.now)) }
-        ensures { IfSome (slice_get (functions_of (judged self.now)) f) (λ (g : FunctionTree). head_types result.now ≡ head_of g) }
+        ensures { IsSomeAnd (slice_get (functions_of (judged self.now)) f) (λ g. head_types result.now ≡ head_of g) }
     {
-        &self.entries[f].head
+        &self.entry(f).head
     }
 
     /// The name of a function.
     pub fn name(&self, f: usize) -> &[u8]
         requires { f < length (functions_of (judged self.now)) }
-        ensures { IfSome (slice_get (functions_of (judged self.now)) f) (λ (g : FunctionTree). result.now ≡ text_of (judged self.now).texts g.name) }
+        ensures { IsSomeAnd (slice_get (functions_of (judged self.now)) f) (λ g. result.now ≡ text_of self.now.unit.names g.name) }
     {
-        text(&self.source.unit, self.entries[f].name)
+        text(&self.source.unit, self.entry(f).name)
     }
 
     /// The number of a function's directives.
@@ -80,16 +88,17 @@ impl Checked {
         requires { f < length (functions_of (judged self.now)) }
         ensures { result ≡ directives_at (judged self.now) f }
     {
-        self.entries[f].signatures.len()
+        self.entry(f).signatures.len()
     }
 
     /// What a directive of a function says.
     pub fn signature(&self, f: usize, d: usize) -> &Signature
         requires function { f < length (functions_of (judged self.now)) }
         requires directive { d < directives_at (judged self.now) f }
-        ensures { IfSome (slice_get (functions_of (judged self.now)) f) (λ (g : FunctionTree). slice_get (signatures g) d ≡ Some (signature_tree result.now)) }
+        ensures { IsSomeAnd (slice_get (functions_of (judged self.now)) f) (λ g. slice_get (signatures g) d ≡ Some (signature_tree result.now)) }
     {
-        &self.entries[f].signatures[d]
+        let entry = self.entry(f);
+        &entry.signatures[d]
     }
 
     /// The unit.
