@@ -48,7 +48,7 @@ name_told o e texts text read h = some_as o (λ g. IsEntry g e) (λ g. text ≡ 
 
 one_each : (g : FunctionTree) (e : Entry) → IsEntry g e → length e.signatures.items ≡ length g.directives
 one_each g e is =
-    sym (length-map signature_tree e.signatures.items) ∙ ap length is.signatures_are ∙ length-map (signature_of g) g.directives
+    sym (length-map e.signatures.items signature_tree) ∙ ap length is.signatures_are ∙ length-map g.directives (signature_of g)
 
 pub count_told : (o : Option FunctionTree) (e : Entry) → IsSomeAnd o (λ g. IsEntry g e) → length e.signatures.items ≡ option_map_or (λ (g : FunctionTree). length g.directives) o 0
 count_told None e h = absurd h
