@@ -1,6 +1,7 @@
 mod Firsts
 mod Listed
 mod Parts
+mod Placed
 mod Quiet
 mod Ranges
 mod Tests

@@ -55,11 +55,11 @@ or_right : (a b : Bool) → (a || b) ≡ false → b ≡ false
 or_right true b h = cc
 or_right false b h = h
 
-or_some : (a b : Bool) → a ≡ true → (a || b) ≡ true
+pub or_some : (a b : Bool) → a ≡ true → (a || b) ≡ true
 or_some true b h = refl
 or_some false b h = cc
 
-or_other : (a b : Bool) → b ≡ true → (a || b) ≡ true
+pub or_other : (a b : Bool) → b ≡ true → (a || b) ≡ true
 or_other true b h = refl
 or_other false b h = h
 
@@ -71,10 +71,10 @@ and_false : (a b : Bool) → (a && b) ≡ false → a ≡ true → b ≡ false
 and_false true b h t = h
 and_false false b h t = cc
 
-never_both : (a : Bool) → a ≡ true → a ≡ false → ⊥
+pub never_both : (a : Bool) → a ≡ true → a ≡ false → ⊥
 never_both a t f = cc
 
-same_id : (a b : NameId) → same_name a b ≡ true → a ≡ b
+pub same_id : (a b : NameId) → same_name a b ≡ true → a ≡ b
 same_id a b h = let e : a.0 ≡ b.0 = grind (arith, nat_tests) in ap (λ (n : ℕ). let id : NameId = record { 0 = n } in id) e
 
 id_same : (a : NameId) → same_name a a ≡ true
@@ -172,7 +172,7 @@ right_of f d earlier c e =
       align = when_not (has_wrong_alignment c.says) (told D10) (quiet_left alignment references (quiet_right lanes (alignment ++ references) at_lanes));
     }
 
-all_right : (f : FunctionTree) (d : DirectiveTree) (earlier cs : List ClauseTree) → all_said_faults f d earlier cs ≡ [] → AreRight f d cs
+pub all_right : (f : FunctionTree) (d : DirectiveTree) (earlier cs : List ClauseTree) → all_said_faults f d earlier cs ≡ [] → AreRight f d cs
 all_right f d earlier [] e = tt
 all_right f d earlier (c ∷ cs) e =
     (right_of f d earlier c (quiet_left (said_faults f d earlier c) _ e), all_right f d (earlier ++ c ∷ []) cs (quiet_right (said_faults f d earlier c) _ e))
@@ -189,7 +189,7 @@ unfolding param_of number_of
 number_below [] id e = cc
 number_below (p ∷ ps) id e = below_at (is_named id p) (param_of ps id) p (number_of ps id) ps (λ h. number_below ps id h) e
 
-integer_there : (o : Option ParamDecl) → is_integer o ≡ true → is_some o ≡ true
+pub integer_there : (o : Option ParamDecl) → is_integer o ≡ true → is_some o ≡ true
 integer_there None e = cc
 integer_there (Some p) e = refl
 
@@ -275,7 +275,7 @@ clause_fits f d id inside rest few right h = h
 clause_fits f d id outside rest few right h = h
 clause_fits f d id other rest few right h = h
 
-kind_fits : (f : FunctionTree) (d : DirectiveTree) (id : NameId) (cs : List ClauseTree) → length f.params ≤ 64 → AreRight f d cs → HasFittingStep (kind_in f d id cs)
+pub kind_fits : (f : FunctionTree) (d : DirectiveTree) (id : NameId) (cs : List ClauseTree) → length f.params ≤ 64 → AreRight f d cs → HasFittingStep (kind_in f d id cs)
 unfolding kind_in
 kind_fits f d id [] few right = tt
 kind_fits f d id (c ∷ cs) few right = clause_fits f d id c.says (kind_in f d id cs) few right.0 (kind_fits f d id cs few right.1)
@@ -331,7 +331,7 @@ align_said_fits f d id inside right = tt
 align_said_fits f d id outside right = tt
 align_said_fits f d id other right = tt
 
-align_fits : (f : FunctionTree) (d : DirectiveTree) (id : NameId) (cs : List ClauseTree) → AreRight f d cs → IsOptionalAlign (align_in id cs)
+pub align_fits : (f : FunctionTree) (d : DirectiveTree) (id : NameId) (cs : List ClauseTree) → AreRight f d cs → IsOptionalAlign (align_in id cs)
 unfolding align_in
 align_fits f d id [] right = tt
 align_fits f d id (c ∷ cs) right = or_align (align_said id c.says) (align_in id cs) (align_said_fits f d id c.says right.0) (align_fits f d id cs right.1)
