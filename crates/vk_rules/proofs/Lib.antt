@@ -1,5 +1,6 @@
 mod Firsts
 mod Listed
+mod Naming
 mod Parts
 mod Placed
 mod Quiet

@@ -1,5 +1,5 @@
 -- The entries of functions, one item after another.
-use Rattle.std.proofs.Common.{◌≡◌, ℕ, zero, suc, ◌+◌, ◌<◌, Bool, true, false, cond, length, map, take, get_or, List, [], ◌∷◌, ◌++◌, Option, Some, None, is_some, slice_get, refl, sym, ap, ap₂, subst, ◌∙◌, arith}
+use Rattle.std.proofs.Common.{◌≡◌, ℕ, zero, suc, ◌+◌, ◌<◌, Bool, true, false, cond, length, map, take, get_or, List, [], ◌∷◌, ◌++◌, Option, Some, is_some, slice_get, refl, sym, ap, ap₂, subst, ◌∙◌, arith}
 use Rattle.std.specs.List.{list_all, position_from}
 use Rattle.std.proofs.lemmas.List.{append-nil, append_assoc, map-append, take_more}
 use Rattle.vk_kinds.specs.declared.kinds.Signature.{Signature}
@@ -9,7 +9,7 @@ use Rattle.vk_ast.specs.declared.names.NameId.{NameId}
 use Rattle.vk_ast.specs.declared.items.Item.{Item}
 use Rattle.vk_ast.specs.Directives.{DirectiveTree, directive_of}
 use Rattle.vk_ast.specs.Units.{FunctionTree, ItemTree, item_of}
-use Rattle.vk_rules_book.specs.Scopes.{declares, first_declaration, is_print}
+use Rattle.vk_rules_book.specs.Scopes.{declares, first_declaration}
 use Rattle.vk_rules_names.specs.Seen.{AreFirst, number_at}
 use Rattle.vk_rules_names.proofs.Tables.{grown}
 use Rattle.vk_rules.specs.declared.entries.Entry.{Entry}
@@ -18,11 +18,11 @@ use Rattle.vk_rules.specs.Functions.{function_at, functions_from}
 use Rattle.vk_rules.specs.Inner.Walk.{Knows}
 use Rattle.vk_rules.proofs.Tests.{both_left, both_right}
 
-functions_none : (texts : List (List ℕ)) (before : List ItemTree) → functions_from texts before [] ≡ []
+pub functions_none : (texts : List (List ℕ)) (before : List ItemTree) → functions_from texts before [] ≡ []
 unfolding functions_from
 functions_none texts before = refl
 
-functions_cons : (texts : List (List ℕ)) (before : List ItemTree) (i : ItemTree) (is : List ItemTree)
+pub functions_cons : (texts : List (List ℕ)) (before : List ItemTree) (i : ItemTree) (is : List ItemTree)
     → functions_from texts before (i ∷ is) ≡ function_at texts before i ++ functions_from texts (before ++ i ∷ []) is
 unfolding functions_from
 functions_cons texts before i is = refl

@@ -1,14 +1,14 @@
 -- The three parts of a unit's visits have the faults of the unit.
-use Rattle.std.proofs.Common.{◌≡◌, ◌++◌, ℕ, List, [], ◌∷◌, Contains, Option, Some, None, refl, sym, subst, ap, ap₂, ◌∙◌, inl, inr, ◌⊎◌}
+use Rattle.std.proofs.Common.{◌≡◌, ◌++◌, ℕ, List, [], ◌∷◌, Option, Some, None, refl, sym, subst, ap, ap₂, ◌∙◌, inl, inr, ◌⊎◌}
 use Rattle.std.specs.List.{flat_map}
 use Rattle.std.proofs.lemmas.List.{append_assoc}
 use Rattle.std.proofs.lemmas.List.Concat.{flat_map-append}
 use Rattle.vk_ast.specs.Units.{ItemTree}
 use Rattle.vk_rules_book.specs.declared.faults.Fault.{Fault}
-use Rattle.vk_rules_book.specs.Faults.{first_among, is_before}
+use Rattle.vk_rules_book.specs.Faults.{first_among}
 use Rattle.vk_rules_book.specs.Noting.{found}
 use Rattle.vk_rules_book.specs.Visits.{Visit, along, item_part, directives_part, function_part, item_visits}
-use Rattle.vk_rules_book.specs.Rules.{Subject, IsFirst, faults_at, faults_of}
+use Rattle.vk_rules_book.specs.Rules.{Subject, faults_at, faults_of}
 use Rattle.vk_rules_book.proofs.Noting.{found_append, found_first, found_none, among_append, among_none}
 use Rattle.vk_rules.specs.Verdicts.{IsVerdict}
 use Rattle.vk_rules.proofs.Firsts.{IsIn, first_list, in_list, none_list, of_list}
@@ -129,10 +129,10 @@ module _ (unit : Subject) where
       same_by (part_faults (item_visits texts) before (i ∷ is)) (three texts before (i ∷ is)) ((a ++ (b ++ c)) ++ whole) ((a ++ x) ++ ((b ++ y) ++ (c ++ z)))
       (part_faults-cons (item_visits texts) before i is ∙ ap (λ fs. fs ++ whole) (one_item texts before i))
       (ap₂ (λ (p q : List Fault). p ++ q) (part_faults-cons (item_part texts) before i is)
-        (ap₂ (λ (p q : List Fault). p ++ q) (part_faults-cons directives_part before i is) (part_faults-cons (function_part texts) before i is)))
+      (ap₂ (λ (p q : List Fault). p ++ q) (part_faults-cons directives_part before i is) (part_faults-cons (function_part texts) before i is)))
       (then_same ((a ++ (b ++ c)) ++ whole) ((a ++ (b ++ c)) ++ (x ++ (y ++ z))) ((a ++ x) ++ ((b ++ y) ++ (c ++ z)))
-        (append_same (a ++ (b ++ c)) whole (x ++ (y ++ z)) (same_faults texts (before ++ i ∷ []) is))
-        (shuffle a b c x y z))
+      (append_same (a ++ (b ++ c)) whole (x ++ (y ++ z)) (same_faults texts (before ++ i ∷ []) is))
+      (shuffle a b c x y z))
 
 -- ---- the verdict
 
@@ -164,8 +164,8 @@ module _ (unit : Subject) where
       let d = along directives_part [] unit.items in
       let f = along (function_part unit.texts) [] unit.items in
       verdict_of c (sym (
-        third
-        ∙ ap (λ o. found unit o f) (second ∙ ap (λ o. found unit o d) first)
-        ∙ sym (ap (λ o. found unit o f) (found_append unit None i d)) ∙ sym (found_append unit None (i ++ d) f)
-        ∙ found_among unit None ((i ++ d) ++ f)
-        ∙ ap (first_among None) (faults_append unit (i ++ d) f ∙ ap (λ xs. xs ++ faults unit f) (faults_append unit i d) ∙ append_assoc (faults unit i) (faults unit d) (faults unit f))))
+      third
+      ∙ ap (λ o. found unit o f) (second ∙ ap (λ o. found unit o d) first)
+      ∙ sym (ap (λ o. found unit o f) (found_append unit None i d)) ∙ sym (found_append unit None (i ++ d) f)
+      ∙ found_among unit None ((i ++ d) ++ f)
+      ∙ ap (first_among None) (faults_append unit (i ++ d) f ∙ ap (λ xs. xs ++ faults unit f) (faults_append unit i d) ∙ append_assoc (faults unit i) (faults unit d) (faults unit f))))

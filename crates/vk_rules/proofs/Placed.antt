@@ -1,18 +1,16 @@
 -- A step that is a parameter's names a uniform one: no name is listed twice by `uniform` and `linear`.
-use Rattle.std.proofs.Common.{◌≡◌, ℕ, zero, suc, ◌+◌, ◌<◌, ◌≤◌, Bool, true, false, cond, ◌&&◌, ◌||◌, not, nat_le, length, map, List, [], ◌∷◌, ◌++◌, Option, Some, None, is_none, is_some, slice_get, unwrap_or, ℤ, pos, refl, sym, ap, ap₂, subst, ◌∙◌, arith}
+use Rattle.std.proofs.Common.{◌≡◌, ℕ, suc, ◌+◌, ◌≤◌, Bool, true, false, cond, ◌&&◌, ◌||◌, not, nat_le, length, map, List, [], ◌∷◌, ◌++◌, Option, Some, None, is_none, is_some, slice_get, unwrap_or, ℤ, pos, refl, sym, ap, subst, ◌∙◌, arith}
 use Rattle.std.specs.Ordering.{int_eq}
-use Rattle.std.specs.List.{AllByRecursion, flat_map, list_all, list_any}
+use Rattle.std.specs.List.{AllByRecursion, list_all, list_any}
 use Rattle.std.specs.Option.{option_map}
 use Rattle.std.proofs.lemmas.List.{append-nil, append_assoc, length-map}
 use Rattle.std.proofs.lemmas.List.Folds.{list_any-append}
 use Rattle.std.proofs.lemmas.Option.{slice_get-map}
-use Rattle.std.proofs.lemmas.Bool.Decides.{nat_tests}
 use Rattle.vk_types.specs.declared.types.Ty.{Ty}
 use Rattle.vk_kinds.specs.declared.kinds.Kind.{Kind}
-use Rattle.vk_kinds.specs.declared.kinds.Kind.TheVariants.{Vector, Uniform, Linear}
+use Rattle.vk_kinds.specs.declared.kinds.Kind.TheVariants.{Uniform, Linear}
 use Rattle.vk_kinds.specs.declared.kinds.Param.{Param}
-use Rattle.vk_kinds.specs.declared.kinds.Step.{Step}
-use Rattle.vk_kinds.specs.declared.kinds.Step.TheVariants.{One, By, Arg}
+use Rattle.vk_kinds.specs.declared.kinds.Step.TheVariants.{One, By}
 use Rattle.vk_names.specs.Spelling.{IsWritten, in_decimal, is_placed, is_uniform_param, step_is_placed, step_of as step_in}
 use Rattle.vk_variants.specs.Directives.{IsNamed}
 use Rattle.vk_unit_rules.specs.declared.rules.UnitRule.{UnitRule}
@@ -29,7 +27,7 @@ use Rattle.vk_rules_book.specs.declared.lists.Entry.{Entry}
 use Rattle.vk_rules_book.specs.Faults.{directive_fault, when}
 use Rattle.vk_rules_book.specs.Scopes.{same_name}
 use Rattle.vk_rules_book.specs.Directives.{all_entry_faults, all_said_faults, entry_faults, has_signature, is_aligned, is_empty, is_listed, is_pointer_param, is_uniform_list, is_written_param}
-use Rattle.vk_rules_book.specs.Signatures.{StepTree, constant, by_parameter, no_step, by_number, constant_step, is_in_uniform, is_integer, is_named, is_uniform, kind_in, kind_said, lists, named_step, number_of, param_of, param_signature, pointee_of, scaled, signature_of, step_of, written_step}
+use Rattle.vk_rules_book.specs.Signatures.{StepTree, constant, by_parameter, no_step, constant_step, is_in_uniform, is_integer, is_named, is_uniform, kind_in, kind_said, lists, named_step, number_of, param_of, param_signature, pointee_of, scaled, signature_of, step_of, written_step}
 use Rattle.vk_rules_book.specs.Visits.{entries_of, entries_said}
 use Rattle.vk_rules.proofs.Quiet.{quiet_left, quiet_right, when_not}
 use Rattle.vk_rules.proofs.Ranges.{AreRight, align_fits, all_right, integer_there, kind_fits, lanes_fit, never_both, or_other, or_some, same_id}
@@ -48,9 +46,9 @@ once f d earlier e quiet =
     let unknown : List Fault = when (is_none (param_of f.params e.name)) (told D2) in
     let second : List Fault = when (not (is_aligned e.listed) && is_listed false earlier e.name) (told D3) in
     let rest : List Fault =
-        when (is_aligned e.listed && (is_some (param_of f.params e.name) && not (is_pointer_param (param_of f.params e.name)))) (told D8)
-        ++ (when (is_aligned e.listed && is_listed true earlier e.name) (told D13)
-        ++ when (is_uniform_list e.listed && is_written_param (param_of f.params e.name)) (told D14)) in
+    when (is_aligned e.listed && (is_some (param_of f.params e.name) && not (is_pointer_param (param_of f.params e.name)))) (told D8)
+    ++ (when (is_aligned e.listed && is_listed true earlier e.name) (told D13)
+    ++ when (is_uniform_list e.listed && is_written_param (param_of f.params e.name)) (told D14)) in
     when_not (not (is_aligned e.listed) && is_listed false earlier e.name) (told D3) (quiet_left second rest (quiet_right unknown (second ++ rest) quiet))
 
 not_again : (a b c : Bool) → a ≡ true → (a && b) ≡ false → b ≡ true → ⊥
@@ -149,7 +147,7 @@ stays_uniform f d id earlier (c ∷ cs) quiet u =
     clause_uniform f d id c.says (kind_in f d id cs) (list_any (λ (x : ClauseTree). is_in_uniform id x.says) cs)
     (λ h. stays_uniform f d id (earlier ++ entries_said c.says) cs behind h)
     (λ here there. never_both (list_any (lists_value id) (entries_of cs)) (among_entries id cs there)
-        (none_again f d id (earlier ++ entries_said c.says) (entries_of cs) behind (list_any-append _ earlier (entries_said c.says) ∙ or_other (is_listed false earlier id) _ here)))
+    (none_again f d id (earlier ++ entries_said c.says) (entries_of cs) behind (list_any-append _ earlier (entries_said c.says) ∙ or_other (is_listed false earlier id) _ here)))
     u
 
 uniform_is : (f : FunctionTree) (d : DirectiveTree) (id : NameId) → all_entry_faults f d [] (entries_of d.clauses) ≡ [] → is_uniform d id ≡ true → kind_in f d id d.clauses ≡ Uniform

@@ -1,5 +1,5 @@
 -- What holds of a unit that breaks no rule, item by item.
-use Rattle.std.proofs.Common.{◌≡◌, ℕ, zero, suc, ◌+◌, ◌<◌, ◌≤◌, ◌==◌, eqb, Bool, true, false, cond, ◌&&◌, nat_le, length, map, take, drop, get_or, List, [], ◌∷◌, ◌++◌, refl, sym, ap, ap₂, subst, ◌∙◌, arith}
+use Rattle.std.proofs.Common.{◌≡◌, ℕ, ◌+◌, ◌<◌, ◌≤◌, eqb, Bool, true, false, ◌&&◌, nat_le, length, map, take, drop, get_or, List, [], ◌∷◌, ◌++◌, refl, sym, ap, ap₂, ◌∙◌, arith}
 use Rattle.std.specs.List.{list_all}
 use Rattle.std.proofs.lemmas.Bool.Decides.{nat_tests}
 use Rattle.std.proofs.lemmas.List.{append-nil, append_assoc, map-append, take-append-drop}
@@ -12,9 +12,9 @@ use Rattle.vk_rules_book.specs.declared.lists.Entry.{Entry}
 use Rattle.vk_rules_book.specs.Faults.{when}
 use Rattle.vk_rules_book.specs.Scopes.{Scope, with_param, with_params, file_scope}
 use Rattle.vk_rules_book.specs.Statements.{param_name_faults, parameter_faults}
-use Rattle.vk_rules_book.specs.Directives.{all_entry_faults, all_said_faults, clause_faults, directive_faults, entry_faults, has_signature, have_signatures, is_empty, long_name_faults, names_in, said_faults}
-use Rattle.vk_rules_book.specs.Visits.{Visit, along, around_body, body_visits, clause, clause_visits, directive, directive_visits, directives, directives_part, entries_of, entry, entry_visits, function_part, item_part, item_visits, parameter, parameter_visits}
-use Rattle.vk_rules_book.specs.Rules.{Subject, faults_at, faults_of}
+use Rattle.vk_rules_book.specs.Directives.{all_entry_faults, all_said_faults, clause_faults, directive_faults, entry_faults, has_signature, is_empty, long_name_faults, names_in, said_faults}
+use Rattle.vk_rules_book.specs.Visits.{Visit, along, around_body, body_visits, clause_visits, directive_visits, directives, directives_part, entries_of, entry_visits, function_part, item_part, item_visits, parameter_visits}
+use Rattle.vk_rules_book.specs.Rules.{Subject, faults_of}
 use Rattle.vk_rules_names.proofs.Tables.{grown}
 use Rattle.vk_rules.specs.Inner.Walk.{IsSound}
 use Rattle.vk_rules.proofs.Parts.{all_faults, faults, faults_append}
@@ -67,7 +67,7 @@ module _ (unit : Subject) where
 
   -- ---- an item
 
-  quiet_part : (part : List ItemTree → ItemTree → List Visit) (before xs : List ItemTree) (x : ItemTree) (ys : List ItemTree)
+  pub quiet_part : (part : List ItemTree → ItemTree → List Visit) (before xs : List ItemTree) (x : ItemTree) (ys : List ItemTree)
       → faults unit (along part before (xs ++ x ∷ ys)) ≡ [] → faults unit (part (before ++ xs) x) ≡ []
   quiet_part part before xs x ys e =
       quiet_first (part (before ++ xs) x) (along part ((before ++ xs) ++ x ∷ []) ys)
@@ -149,8 +149,8 @@ unit_sound unit items k x same e lt is =
     item_sound unit (map item_of (take k items)) (item_of x)
     (quiet_part unit (item_visits unit.texts) [] (map item_of (take k items)) (item_of x) (map item_of (drop (k + 1) items))
     (ap (λ xs. faults unit (along (item_visits unit.texts) [] xs)) (sym (same
-        ∙ ap (map item_of) (sym (take-append-drop (k + 1) items))
-        ∙ map-append item_of (take (k + 1) items) (drop (k + 1) items)
-        ∙ ap (λ xs. xs ++ map item_of (drop (k + 1) items)) (grown items k x lt is)
-        ∙ append_assoc (map item_of (take k items)) (item_of x ∷ []) (map item_of (drop (k + 1) items))))
+    ∙ ap (map item_of) (sym (take-append-drop (k + 1) items))
+    ∙ map-append item_of (take (k + 1) items) (drop (k + 1) items)
+    ∙ ap (λ xs. xs ++ map item_of (drop (k + 1) items)) (grown items k x lt is)
+    ∙ append_assoc (map item_of (take k items)) (item_of x ∷ []) (map item_of (drop (k + 1) items))))
     ∙ sym (all_faults unit) ∙ e))

@@ -1,34 +1,25 @@
 -- What a directive says that breaks no rule is within the ranges of vector names.
-use Rattle.std.proofs.Common.{◌≡◌, ◌≢◌, ℕ, zero, suc, ◌+◌, ◌*◌, ◌^◌, ◌<◌, ◌≤◌, ◌==◌, eqb, Bool, true, false, cond, ◌&&◌, ◌||◌, not, nat_le, nat_lt, length, map, get_or, List, [], ◌∷◌, ◌++◌, Option, Some, None, is_some, is_none, slice_get, unwrap_or, ℤ, pos, negsuc, ◌*ℤ◌, refl, sym, ap, ap₂, subst, ◌∙◌, arith, rules, lit≤}
+use Rattle.std.proofs.Common.{◌≡◌, ℕ, zero, suc, ◌+◌, ◌*◌, ◌^◌, ◌<◌, ◌≤◌, eqb, Bool, true, false, cond, ◌&&◌, ◌||◌, not, nat_le, length, get_or, List, [], ◌∷◌, ◌++◌, Option, Some, None, is_some, unwrap_or, ℤ, pos, negsuc, refl, sym, ap, subst, ◌∙◌, arith, rules, lit≤}
 use Rattle.std.specs.Prelude.{unsigned_abs, int_le, decimal}
 use Rattle.std.specs.Fmt.{digits}
 use Rattle.std.specs.Int.{is_power_of_two}
-use Rattle.std.specs.List.{AllByRecursion, flat_map, list_all, list_any}
+use Rattle.std.specs.List.{AllByRecursion, list_any}
 use Rattle.std.specs.Option.{option_and_then, option_or}
 use Rattle.std.specs.Ordering.{int_eq}
-use Rattle.std.specs.Str.Parse.{digits_value}
 use Rattle.std.proofs.lemmas.Bool.Decides.{nat_tests, Decides-int_eq}
-use Rattle.std.proofs.lemmas.Bool.{false≢true}
 use Rattle.std.proofs.lemmas.Fmt.{digits_decimal, digits_value-decimal, first_decimal}
 use Rattle.std.proofs.lemmas.Int.{unsigned_abs-mul}
-use Rattle.std.proofs.lemmas.List.{length-map}
-use Rattle.std.proofs.lemmas.List.Folds.{list_any-append}
-use Rattle.std.proofs.lemmas.Option.{slice_get-map}
 use Rattle.vk_types.specs.declared.types.Ty.{Ty}
-use Rattle.vk_types.specs.declared.types.Ty.TheVariants.{I8, I16, I32, I64, U8, U16, U32, U64}
 use Rattle.vk_kinds.specs.declared.kinds.Kind.{Kind}
-use Rattle.vk_kinds.specs.declared.kinds.Kind.TheVariants.{Vector, Uniform, Linear}
-use Rattle.vk_kinds.specs.declared.kinds.Param.{Param}
-use Rattle.vk_kinds.specs.declared.kinds.Step.{Step}
+use Rattle.vk_kinds.specs.declared.kinds.Kind.TheVariants.{Uniform, Linear}
 use Rattle.vk_kinds.specs.declared.kinds.Step.TheVariants.{One, By, Arg}
 use Rattle.vk_kinds.specs.Sizes.{bytes_of}
 use Rattle.vk_unit_rules.specs.declared.rules.UnitRule.{UnitRule}
 use Rattle.vk_unit_rules.specs.declared.rules.UnitRule.TheVariants.{D1, D4, D5, D6, D7, D9, D10, D11}
-use Rattle.vk_names.specs.Spelling.{IsAlign, IsOptionalAlign, IsOptionalStep, IsPosition, IsStep, IsWritten, in_decimal, is_placed, position_in, step_is_placed, step_of as step_in, is_uniform_param}
+use Rattle.vk_names.specs.Spelling.{IsOptionalAlign, IsOptionalStep, IsPosition, IsStep, position_in, step_of as step_in}
 use Rattle.vk_names.proofs.Numbers.{own}
-use Rattle.vk_variants.specs.Directives.{IsNamed, IsSimdlen}
+use Rattle.vk_variants.specs.Directives.{IsSimdlen}
 use Rattle.vk_ast.specs.declared.directives.PlacedName.{PlacedName}
-use Rattle.vk_ast.specs.declared.directives.Modifier.{Modifier}
 use Rattle.vk_ast.specs.declared.items.ParamDecl.{ParamDecl}
 use Rattle.vk_ast.specs.declared.names.NameId.{NameId}
 use Rattle.vk_ast.specs.Tree.{Tree}
@@ -36,12 +27,10 @@ use Rattle.vk_ast.specs.Directives.{ClauseTree, DirectiveTree, Says, simdlen, un
 use Rattle.vk_ast.specs.Units.{FunctionTree}
 use Rattle.vk_numbers.specs.Constants.{constant_of, constant_to, number_to}
 use Rattle.vk_rules_book.specs.declared.faults.Fault.{Fault}
-use Rattle.vk_rules_book.specs.declared.lists.Entry.{Entry}
 use Rattle.vk_rules_book.specs.Faults.{directive_fault, when}
 use Rattle.vk_rules_book.specs.Scopes.{same_name}
-use Rattle.vk_rules_book.specs.Directives.{all_entry_faults, all_said_faults, entry_faults, has_modifier, has_signature, has_wrong_alignment, has_wrong_step, is_aligned, is_branch, is_empty, is_listed, is_of_references, is_other, is_power_from, is_simdlen, is_too_great, is_unknown, is_wrong_simdlen, is_wrong_step, powers, said_faults}
-use Rattle.vk_rules_book.specs.Signatures.{StepTree, constant, by_parameter, no_step, align_in, align_said, alignment, by_number, constant_step, is_in_uniform, is_integer, is_named, is_uniform, kind_in, kind_said, lists, named_step, number_of, param_of, param_signature, pointee_of, scaled, signature_of, simdlen_in, simdlen_said, step_of, written_step}
-use Rattle.vk_rules_book.specs.Visits.{entries_of, entries_said}
+use Rattle.vk_rules_book.specs.Directives.{all_said_faults, has_modifier, has_wrong_alignment, has_wrong_step, is_branch, is_of_references, is_other, is_power_from, is_simdlen, is_too_great, is_unknown, is_wrong_simdlen, is_wrong_step, powers, said_faults}
+use Rattle.vk_rules_book.specs.Signatures.{StepTree, constant, by_parameter, no_step, align_in, align_said, alignment, constant_step, is_integer, is_named, is_uniform, kind_in, kind_said, lists, named_step, number_of, param_of, pointee_of, scaled, simdlen_in, simdlen_said, step_of, written_step}
 use Rattle.vk_rules.proofs.Quiet.{quiet_left, quiet_right, when_not}
 use Rattle.vk_rules.proofs.Tests.{both_left, both_right}
 

@@ -1,11 +1,10 @@
 -- What the entries tell of functions.
-use Rattle.std.proofs.Common.{◌≡◌, ℕ, zero, suc, ◌<◌, length, map, get_or, List, [], ◌∷◌, Option, Some, None, IsSomeAnd, slice_get, refl, sym, ap, subst, ◌∙◌, arith}
+use Rattle.std.proofs.Common.{◌≡◌, ℕ, zero, suc, ◌<◌, length, get_or, List, [], ◌∷◌, Option, Some, None, IsSomeAnd, slice_get, refl, sym, ap, subst, ◌∙◌, arith}
 use Rattle.std.specs.Option.{option_map, option_map_or}
 use Rattle.std.proofs.lemmas.List.{length-map}
 use Rattle.std.proofs.lemmas.Option.{slice_get-map, slice_get_read}
 use Rattle.vk_kinds.specs.declared.kinds.Signature.{Signature}
-use Rattle.vk_kinds.specs.Sizes.{SignatureTree, head_types, signature_tree}
-use Rattle.vk_ast.specs.Directives.{DirectiveTree}
+use Rattle.vk_kinds.specs.Sizes.{head_types, signature_tree}
 use Rattle.vk_ast.specs.Units.{FunctionTree}
 use Rattle.vk_rules_book.specs.Directives.{signatures}
 use Rattle.vk_rules_book.specs.Scopes.{text_of}

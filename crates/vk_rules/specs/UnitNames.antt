@@ -3,7 +3,6 @@
 use Rattle.std.specs.Prelude.{◌≡◌, ℕ, ◌<◌, Contains, false, true, length, List, slice_index}
 use Rattle.std.specs.Char.{is_ascii_digit}
 use Rattle.std.specs.List.{flat_map, list_all}
-use Rattle.vk_kinds.specs.declared.kinds.Target.{Target}
 use Rattle.vk_names.specs.Spelling.{is_name_byte}
 use Rattle.vk_variants.specs.Directives.{function_names}
 use Rattle.vk_ast.specs.Units.{FunctionTree}

@@ -11,7 +11,7 @@ ghost use Rattle.vk_rules.specs.Verdicts.{judged};
 
 use crate::entries::Entry;
 use std::marker::Model;
-use vk_ast::{Unit, NameId};
+use vk_ast::{NameId, Unit};
 use vk_kinds::{Head, Signature, Target};
 
 /// A unit of C, and what it is compiled for.
@@ -39,7 +39,7 @@ impl Model for Checked {
     ghost use Rattle.vk_rules.specs.declared.accepted.Source.{Source};
     ghost use Rattle.vk_rules.specs.Entries.{AreEntries};
     ghost use Rattle.vk_rules.specs.Entries.{IsEntry};
-ghost use Rattle.vk_rules.specs.Functions.{functions_of};
+    ghost use Rattle.vk_rules.specs.Functions.{functions_of};
     ghost use Rattle.vk_rules.specs.Verdicts.{judged};
 
     ghost Value = { Source };

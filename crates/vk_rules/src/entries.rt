@@ -70,7 +70,12 @@ fn is_known(place: &Place, id: NameId) -> bool
 }
 
 // Adds the entry of a function, unless its name is known.
-fn add_function(alloc: Global, known: bool, f: &Function, entries: &mut Vec<Entry>) -> Result<(), Memory>
+fn add_function(
+    alloc: Global,
+    known: bool,
+    f: &Function,
+    entries: &mut Vec<Entry>,
+) -> Result<(), Memory>
     requires sound { have_signatures (function_of f.now) ≡ true }
     requires count { length f.now.params.items ≤ 64 }
     ensures { (fs : List FunctionTree) → AreEntries fs entries.old.items →

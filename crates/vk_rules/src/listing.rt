@@ -22,13 +22,23 @@ pub fn names(alloc: Global, unit: &Checked) -> Result<NameList, Memory>
 {
     let mut list = NameList::new(alloc);
     for entry in &unit.entries {
-        add_function(&mut list, unit.source.target, text(&unit.source.unit, entry.name), entry)?;
+        add_function(
+            &mut list,
+            unit.source.target,
+            text(&unit.source.unit, entry.name),
+            entry,
+        )?;
     }
     Ok(list)
 }
 
 // Adds the names that the directives of a function give.
-fn add_function(list: &mut NameList, target: Target, scalar: &[u8], entry: &Entry) -> Result<(), Memory>
+fn add_function(
+    list: &mut NameList,
+    target: Target,
+    scalar: &[u8],
+    entry: &Entry,
+) -> Result<(), Memory>
     requires count { All (λ s. length entry.now.head.params.items ≡ length (signature_tree s).params) entry.now.signatures.items }
     requires in_range { All (λ s. IsNamed (signature_tree s)) entry.now.signatures.items }
     requires scalar { IsScalar scalar.now }

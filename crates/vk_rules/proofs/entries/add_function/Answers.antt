@@ -1,6 +1,4 @@
-use Rattle.std.proofs.Common.{subst, sym}
 use Rattle.vk_ast.specs.Units.{function_of}
-use Rattle.vk_rules.specs.Entries.{AreEntries}
 use Rattle.vk_rules.proofs.Listed.{added}
 use Rattle.vk_rules.proofs.entries.add_function.Goals as goal
 

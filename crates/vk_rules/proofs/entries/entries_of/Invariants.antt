@@ -1,4 +1,4 @@
-use Rattle.std.proofs.Common.{◌≡◌, [], map, take}
+use Rattle.std.proofs.Common.{[], map, take}
 use Rattle.vk_ast.specs.Units.{item_of}
 use Rattle.vk_rules_names.specs.Seen.{AreFirst}
 use Rattle.vk_rules.specs.Entries.{AreEntries}

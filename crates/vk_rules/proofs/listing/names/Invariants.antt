@@ -1,4 +1,4 @@
-use Rattle.std.proofs.Common.{◌≡◌, ◌++◌, take}
+use Rattle.std.proofs.Common.{◌≡◌, take}
 use Rattle.std.specs.List.{flat_map}
 use Rattle.vk_rules.specs.Functions.{functions_of}
 use Rattle.vk_rules.specs.UnitNames.{names_of_function}

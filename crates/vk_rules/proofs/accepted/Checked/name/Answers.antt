@@ -1,4 +1,4 @@
-use Rattle.std.proofs.Common.{List, ℕ, ap, ◌∙◌}
+use Rattle.std.proofs.Common.{ap, ◌∙◌}
 use Rattle.vk_rules_book.specs.Scopes.{text_of}
 use Rattle.vk_rules.specs.declared.accepted.Source.{Source}
 use Rattle.vk_rules.proofs.Told.{name_told}
