@@ -1,9 +1,9 @@
 mod Firsts
 mod Listed
-mod Naming
+pub mod Naming
 mod Parts
 mod Placed
-mod Quiet
+pub mod Quiet
 mod Ranges
 mod Tests
 mod Told

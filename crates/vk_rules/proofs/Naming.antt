@@ -33,10 +33,10 @@ use Rattle.vk_rules.proofs.Tests.{both_left, both_right}
 
 -- ---- a function of a unit is one of its items
 
-record IsDeclared (items : List ItemTree) (f : FunctionTree) : Type 0 where
-  before : List ItemTree
-  behind : List ItemTree
-  there : items ≡ before ++ function f ∷ behind
+pub record IsDeclared (items : List ItemTree) (f : FunctionTree) : Type 0 where
+  pub before : List ItemTree
+  pub behind : List ItemTree
+  pub there : items ≡ before ++ function f ∷ behind
 
 one_further : (i : ItemTree) (is : List ItemTree) (f : FunctionTree) → IsDeclared is f → IsDeclared (i ∷ is) f
 one_further i is f d = record { before = i ∷ d.before; behind = d.behind; there = ap (λ xs. i ∷ xs) d.there }
@@ -59,6 +59,9 @@ declared_in texts before (object o ∷ is) k f at =
     one_further (object o) is f (declared_in texts (before ++ object o ∷ []) is k f (ap (λ (fs : List FunctionTree). slice_get fs k) (sym (functions_cons texts before (object o) is)) ∙ at))
 declared_in texts before (lost_line d ∷ is) k f at =
     one_further (lost_line d) is f (declared_in texts (before ++ lost_line d ∷ []) is k f (ap (λ (fs : List FunctionTree). slice_get fs k) (sym (functions_cons texts before (lost_line d) is)) ∙ at))
+
+pub declared_as : (unit : Subject) (f : FunctionTree) → Contains (functions_of unit) f → IsDeclared unit.items f
+declared_as unit f (k, lt, at) = declared_in unit.texts [] unit.items k f (slice_get-get_or (functions_of unit) k f lt ∙ ap (λ (g : FunctionTree). Some g) at)
 
 -- ---- its name is short
 
