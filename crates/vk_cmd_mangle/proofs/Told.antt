@@ -75,3 +75,6 @@ allowed_printed (Stopped stop) u = u
 allowed_printed (ReadFault input) u = absurd u
 allowed_printed WriteFault u = tt
 allowed_printed Memory u = tt
+
+pub line_text : (text clear full line : List ℕ) → clear ≡ [] → full ≡ clear ++ text → line ≡ full ++ 10 ∷ [] → line ≡ name_line text
+line_text text clear full line none filled ended = ended ∙ ap (λ (xs : List ℕ). xs ++ 10 ∷ []) (filled ∙ ap (λ (xs : List ℕ). xs ++ text) none)
