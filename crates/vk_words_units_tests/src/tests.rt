@@ -3,9 +3,11 @@ use std::alloc::{AllocError, Global};
 use std::test::Fail;
 use vk_io::{Memory, Words};
 use vk_kinds::{Isa, Target};
+use vk_words::MangleRequest;
+use vk_words::mangle::mangle_of;
 use vk_words::matching::NoRequest;
 use vk_words_units::{
-    CloneRequest, GenRequest, MangleRequest, UnitsRequest, clone_of, gen_of, mangle_of, units_of,
+    CloneRequest, GenRequest, UnitsRequest, clone_of, gen_of, units_of,
 };
 
 // The words of a text.
