@@ -33,7 +33,7 @@ fn signatures_of(alloc: Global, f: &Function) -> Result<Vec<Signature>, Memory>
 {
     let mut list = Vec::new(alloc);
     for d in &f.directives {
-        list.push(signature_of(alloc, f, d)?)?;
+        list.push(signature_of(f, d))?;
     }
     Ok(list)
 }
@@ -46,7 +46,7 @@ fn entry_of(alloc: Global, f: &Function) -> Result<Entry, Memory>
 {
     Ok(Entry {
         name: f.name,
-        head: head_of(alloc, f)?,
+        head: head_of(f),
         signatures: signatures_of(alloc, f)?,
     })
 }

@@ -10,5 +10,5 @@ signature_of-requires c =
 
 pub loop-d-preserved : goal.loop-d-preserved
 loop-d-preserved c =
-    signed_more (signature_of (function_of c.args.f.now)) _ _ _ _ _ _ _ c.deref-d-items.ensures.value c.loop-d-test.true c.d-item.is c.loop-d.invariant c.in_ok-signature_of.ensures
+    signed_more (signature_of (function_of c.args.f.now)) _ _ _ _ _ _ _ c.deref-d-items.ensures.value c.loop-d-test.true c.d-item.is c.loop-d.invariant c.signature_of.ensures
     c.in_ok-push.ensures.items
