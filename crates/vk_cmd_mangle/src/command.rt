@@ -29,11 +29,13 @@ pub fn mangle<S: Store, O: Sink>(
     };
     let lines = match lines_of(alloc, &bytes, target) {
         Ok(lines) => lines,
-        Err(NoUnit::Rule {
-            line,
-            directive,
-            rule,
-        }) => {
+        Err(
+            NoUnit::Rule {
+                line,
+                directive,
+                rule,
+            },
+        ) => {
             return End::Refused(Refusal::Unit {
                 input: 0,
                 line,

@@ -108,13 +108,7 @@ pub(super) static MANGLED: [(&str, &str, &str, &str, u8); 19] = [
         "vfabi: f.c: X1\n",
         1,
     ),
-    (
-        "",
-        "mangle --target mips f.c",
-        "",
-        "vfabi: words: P4\n",
-        2,
-    ),
+    ("", "mangle --target mips f.c", "", "vfabi: words: P4\n", 2),
     ("", "mangle", "", "vfabi: words: P3\n", 2),
     (
         "",
