@@ -3,15 +3,15 @@
 ghost use Rattle.std.specs.Prelude.{◌≡◌, IfOk, IsErrOf, false, map, string_bytes};
 ghost use Rattle.clap.specs.Words.{takes};
 ghost use Rattle.vk_words.specs.Tables.{mangle_table};
-ghost use Rattle.vk_words_units.specs.Asked.{IsMangle, IsMangleUnstated};
-ghost use Rattle.vk_words_units.specs.Views.{mangle_asked};
+ghost use Rattle.vk_words.specs.Asked.{IsMangle, IsMangleUnstated};
+ghost use Rattle.vk_words.specs.Views.{mangle_asked};
 
+use crate::getters::needed;
+use crate::matching::{NoRequest, read};
+use crate::tables::mangle_command;
 use crate::values::target_of;
 use std::alloc::Global;
 use vk_kinds::Target;
-use vk_words::getters::needed;
-use vk_words::matching::{NoRequest, read};
-use vk_words::tables::mangle_command;
 
 /// The vector names of a unit.
 #[derive(Clone, Copy)]

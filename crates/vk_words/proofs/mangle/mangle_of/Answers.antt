@@ -3,8 +3,8 @@ use Rattle.std.specs.Prelude.{codes}
 use Rattle.clap.specs.Words.{Text}
 use Rattle.vk_words.specs.Tables.{mangle_table}
 use Rattle.vk_words.proofs.Known.{as_table, found_at, held_at, holds_at, is_there}
-use Rattle.vk_words_units.specs.Asked.{IsTarget}
-use Rattle.vk_words_units.proofs.mangle.mangle_of.Goals as goal
+use Rattle.vk_words.specs.Asked.{IsTarget}
+use Rattle.vk_words.proofs.mangle.mangle_of.Goals as goal
 
 pub needed-requires : goal.needed-requires
 needed-requires c = is_there (as_table _ mangle_table _ _ c.in_ok-mangle_command.ensures c.in_ok-matches.ensures.ok) 0 (codes "target") refl
