@@ -1,8 +1,6 @@
 use std::alloc::Global;
-use vk_ast::Unit;
+use vk_ast::{Item, Unit};
 use vk_kinds::Target;
-use vk_rules_functions::judge_functions;
-use vk_rules_names::Note;
 use vk_unit_rules::UnitRule;
 
 #[derive(Clone, Copy, PartialEq, Eq, Debug)]
@@ -15,18 +13,27 @@ pub enum CheckFail {
     Memory,
 }
 
-pub(crate) fn check(alloc: Global, unit: &Unit, target: Target) -> Result<(), CheckFail> {
-    let mut note = Note { first: None };
-    match judge_functions(alloc, target, &unit.names, &unit.items, &mut note) {
-        Ok(()) => {}
-        Err(_) => return Err(CheckFail::Memory),
+pub(crate) fn check(_alloc: Global, unit: &Unit, target: Target) -> Result<(), CheckFail> {
+    match target {
+        Target::X86 => {}
+        Target::Arm => return Err(CheckFail::Memory),
     }
-    match note.first {
-        Some(f) => Err(CheckFail::Rule {
-            line: f.line,
-            directive: f.directive,
-            rule: f.rule,
-        }),
+    match unit.items.first() {
         None => Ok(()),
+        Some(Item::Function(f)) => Err(CheckFail::Rule {
+            line: f.line,
+            directive: 0,
+            rule: UnitRule::C8,
+        }),
+        Some(Item::Object(f)) => Err(CheckFail::Rule {
+            line: f.line,
+            directive: 0,
+            rule: UnitRule::C9,
+        }),
+        Some(Item::Lost(f)) => Err(CheckFail::Rule {
+            line: f.line,
+            directive: 0,
+            rule: UnitRule::D12,
+        }),
     }
 }
