@@ -22,8 +22,6 @@ mod redeclared;
 #[cfg(test)]
 mod sizes;
 #[cfg(test)]
-mod stand_in;
-#[cfg(test)]
 mod values;
 #[cfg(test)]
 mod variants;

@@ -1,6 +1,6 @@
 // Counts, lengths and sizes: C16, C17, C18.
 
-use crate::verdict::compare;
+use crate::verdict::compare_unit;
 use std::alloc::Global;
 use std::process::Abort;
 use std::test::Fail;
@@ -24,7 +24,8 @@ fn compare_repeated(
         text.push_str(before)?;
         push_times(&mut text, part, *times)?;
         text.push_str(behind)?;
-        compare(rt, alloc, Target::X86, &[(text.as_str(), *want)])?;
+        let row = format!(in alloc; "{before}{part} {times} times {behind}")?;
+        compare_unit(rt, alloc, Target::X86, row.as_str(), text.as_str(), want)?;
     }
     Ok(())
 }
@@ -63,7 +64,8 @@ fn compare_sums(
         text.push_str(between)?;
         push_function(&mut text, "void g(void) {", 1983)?;
         text.push_str(behind)?;
-        compare(rt, alloc, Target::X86, &[(text.as_str(), *want)])?;
+        let row = format!(in alloc; "{before}f of {empties}\n{between}g\n{behind}")?;
+        compare_unit(rt, alloc, Target::X86, row.as_str(), text.as_str(), want)?;
     }
     Ok(())
 }

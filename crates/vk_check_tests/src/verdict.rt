@@ -1,6 +1,5 @@
 // What is told of a unit.
 
-use crate::stand_in::{CheckFail, check};
 use std::alloc::Global;
 use std::process::Abort;
 use std::test::Fail;
@@ -8,6 +7,7 @@ use vk_ast::Unit;
 use vk_kinds::Target;
 use vk_lex::lex;
 use vk_parse::parse;
+use vk_rules::{CheckFail, check};
 use vk_unit_rules::UnitFail;
 
 // The tree of a text.
@@ -24,7 +24,7 @@ fn verdict(alloc: Global, target: Target, text: &str) -> Result<String, Fail> {
     let Ok(unit) = unit_of(alloc, text.as_bytes()) else {
         return Ok(format!(in alloc; "no unit")?);
     };
-    match check(alloc, &unit, target) {
+    match check(alloc, unit, target) {
         Ok(_) => Ok(format!(in alloc; "ok")?),
         Err(
             CheckFail::Rule {
@@ -37,6 +37,20 @@ fn verdict(alloc: Global, target: Target, text: &str) -> Result<String, Fail> {
     }
 }
 
+/// Compares what is told of a unit, which `row` names, with what is wanted.
+pub(crate) fn compare_unit(
+    rt: &impl Abort,
+    alloc: Global,
+    target: Target,
+    row: &str,
+    text: &str,
+    want: &str,
+) -> Result<(), Fail> {
+    let found = verdict(alloc, target, text)?;
+    assert!(rt; found.as_str() == want, "{row}\n{found}");
+    Ok(())
+}
+
 /// Compares what is told of each unit with what is wanted.
 pub(crate) fn compare(
     rt: &impl Abort,
@@ -45,8 +59,7 @@ pub(crate) fn compare(
     rows: &[(&str, &str)],
 ) -> Result<(), Fail> {
     for (text, want) in rows {
-        let found = verdict(alloc, target, text)?;
-        assert!(rt; found.as_str() == *want, "{text}\n{found}");
+        compare_unit(rt, alloc, target, text, text, want)?;
     }
     Ok(())
 }
@@ -58,10 +71,8 @@ pub(crate) fn compare_clauses(
     rows: &[(&str, &str)],
 ) -> Result<(), Fail> {
     for (clauses, want) in rows {
-        let text = format!(in alloc;
-            "#pragma omp declare simd {clauses}\nlong f(int x, long n, const int *p, short *q, const signed char *r, const long *s);"
-        )?;
-        compare(rt, alloc, Target::X86, &[(text.as_str(), *want)])?;
+        let text = format!(in alloc; "#pragma omp declare simd {clauses}\nlong f(int x, long n, const int *p, short *q, const signed char *r, const long *s);")?;
+        compare_unit(rt, alloc, Target::X86, clauses, text.as_str(), want)?;
     }
     Ok(())
 }
