@@ -71,7 +71,9 @@ pub(crate) fn compare_clauses(
     rows: &[(&str, &str)],
 ) -> Result<(), Fail> {
     for (clauses, want) in rows {
-        let text = format!(in alloc; "#pragma omp declare simd {clauses}\nlong f(int x, long n, const int *p, short *q, const signed char *r, const long *s);")?;
+        let text = format!(in alloc;
+            "#pragma omp declare simd {clauses}\nlong f(int x, long n, const int *p, short *q, const signed char *r, const long *s);"
+        )?;
         compare_unit(rt, alloc, Target::X86, clauses, text.as_str(), want)?;
     }
     Ok(())
