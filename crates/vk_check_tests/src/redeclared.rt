@@ -171,7 +171,7 @@ fn lists_of_directives(rt: HostRuntime) -> Result<(), Fail> {
 }
 
 // Which declarations are compared, and what is told.
-static PLACES: [(&str, &str); 23] = [
+static PLACES: [(&str, &str); 24] = [
     (
         "#pragma omp declare simd uniform(a)\nint f(int a);\n#pragma omp declare simd uniform(b)\nint f(int b);",
         "ok",
@@ -211,6 +211,10 @@ static PLACES: [(&str, &str); 23] = [
     (
         "int f(int a);\nint f(int a);\n#pragma omp declare simd\nint f(int a);",
         "3 1 D17",
+    ),
+    (
+        "#pragma omp declare simd\nint g(int a);\nint g(int a);\n#pragma omp declare simd\nint f(int a) { return g(a); }",
+        "ok",
     ),
     (
         "#pragma omp declare simd\nint f(int a);\n\n#pragma omp declare simd inbranch\n#pragma omp declare simd notinbranch\n\nint f(int a);",
