@@ -6,7 +6,12 @@ use vk_reading::prints::print;
 use vk_types::Word;
 
 // Two numbers that are put into a sink of which the call with this number fails, 0 for none: how the second one ended, and the bytes.
-fn is_put(alloc: Global, failing: u64, end: Result<(), RunFail>, text: &str) -> Result<bool, Memory> {
+fn is_put(
+    alloc: Global,
+    failing: u64,
+    end: Result<(), RunFail>,
+    text: &str,
+) -> Result<bool, Memory> {
     let mut sink = MemSink::new(alloc, &[failing])?;
     if print(alloc, &mut sink, Word(18446744073709551609)).is_err() {
         return Ok(false);
