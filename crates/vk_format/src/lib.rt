@@ -2,7 +2,9 @@
 #![tactic(auto)]
 
 pub mod fields;
+pub mod items;
 pub mod laws;
 pub mod rules;
 
+pub use items::Items;
 pub use rules::{ObjectFail, ObjectFault, ObjectRule};
