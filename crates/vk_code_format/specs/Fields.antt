@@ -15,6 +15,7 @@ use Rattle.vk_code.specs.Instruction.{types}
 use Rattle.vk_code.specs.Valid.{is_good_simdlen}
 use Rattle.vk_format.specs.declared.rules.ObjectRule.{ObjectRule}
 use Rattle.vk_format.specs.declared.rules.ObjectRule.TheVariants.{O3, O7, O8}
+use Rattle.vk_format.specs.declared.rules.ObjectFault.{ObjectFault}
 use Rattle.vk_format.specs.Codec.{Codec, number, meaning, judged, seen}
 
 -- one byte, which is a value's place in the list
@@ -116,3 +117,18 @@ last_of (x ∷ y ∷ ys) = last_of (y ∷ ys)
 abbrev pub comes_after : {A : Type 0} → (A → A → Bool) → Option A → A → Bool
 comes_after before None x = true
 comes_after before (Some y) x = before y x
+
+-- ---- faults of members
+
+abbrev pub or_else : Option ObjectFault → Option ObjectFault → Option ObjectFault
+or_else None o = o
+or_else (Some f) o = Some f
+
+abbrev pub unless : Bool → ObjectFault → Option ObjectFault
+unless true f = None
+unless false f = Some f
+
+-- The first fault of members that stand one after the other from a place on. A member is told by its number, and by its place.
+abbrev pub first_along : {A : Type 0} → (A → ℕ) → (ℕ → ℕ → A → Option ObjectFault) → ℕ → ℕ → List A → Option ObjectFault
+first_along size faults n at [] = None
+first_along size faults n at (x ∷ xs) = or_else (faults n at x) (first_along size faults (n + 1) (at + size x) xs)

@@ -1,6 +1,5 @@
 -- The parameters of a directive or an entry.
-use Rattle.std.specs.Prelude.{ℕ, ◌-◌, ◌^◌, ◌==◌, nat_lt, Bool, true, false, not, ◌&&◌, if◌then◌else◌, ℤ, pos, negsuc, List, [], ◌∷◌, Option, Some, None, slice_get}
-use Rattle.std.specs.List.{list_all}
+use Rattle.std.specs.Prelude.{ℕ, ◌-◌, ◌^◌, ◌==◌, nat_lt, Bool, true, not, ◌&&◌, if◌then◌else◌, ℤ, pos, negsuc, List, [], ◌∷◌, Option, Some, None}
 use Rattle.vk_kinds.specs.declared.heads.CType.{CType}
 use Rattle.vk_kinds.specs.declared.kinds.Kind.{Kind}
 use Rattle.vk_kinds.specs.declared.kinds.Kind.TheVariants as kind
@@ -8,8 +7,7 @@ use Rattle.vk_kinds.specs.declared.kinds.Step.{Step}
 use Rattle.vk_kinds.specs.declared.kinds.Step.TheVariants as step
 use Rattle.vk_kinds.specs.declared.kinds.Param.{Param}
 use Rattle.vk_kinds.specs.Types.{ctype_number}
-use Rattle.vk_code.specs.Tests.{holds}
-use Rattle.vk_code.specs.Valid.{is_integer, is_written}
+use Rattle.vk_code.specs.Valid.{is_written}
 use Rattle.vk_object.specs.Parameters.{is_aligned, is_aligned_at, is_step, is_whole}
 use Rattle.vk_format.specs.declared.rules.ObjectRule.TheVariants.{O7}
 use Rattle.vk_format.specs.Codec.{Codec, number, field, judged, given}
@@ -73,23 +71,6 @@ param t =
     field (λ p. p.value) (judged O7 (value_fits t kind) (number 4)) λ value.
     field (λ p. p.align) (judged O7 (align_fits t) (optional 4 0)) λ align.
     given (record { kind = kind; value = value; align = align })
-
--- ---- all parameters
-
-abbrev pub is_uniform_row : ParamRow → Bool
-is_uniform_row p = elim p.kind as (λ _. Bool) [ | Vector ↦ false | Uniform ↦ true | By ↦ false | Along ↦ false ]
-
--- a step by a parameter names one that is uniform, and an integer where types are known
-abbrev pub is_placed : List CType → List ParamRow → ParamRow → Bool
-is_placed types params p = elim p.kind as (λ _. Bool) [
-  | Vector ↦ true
-  | Uniform ↦ true
-  | By ↦ true
-  | Along ↦ holds is_uniform_row (slice_get params p.value) && where_known (λ u. is_integer (ctype_number u)) (slice_get types p.value)
-]
-
-abbrev pub are_placed : List CType → List ParamRow → Bool
-are_placed types params = list_all (is_placed types params) params
 
 -- ---- what they stand for
 

@@ -1,0 +1,6 @@
+//! Objects as bytes: the one table of their fields, from which writing, reading and the order of judging follow.
+#![tactic(auto)]
+
+pub mod rows;
+
+pub use rows::{RawCodes, RawData, RawDirective, RawFunction, RawObject};
