@@ -4,7 +4,7 @@ use Rattle.byteorder.specs.Endian.{little_bytes, little_number}
 use Rattle.vk_code.specs.declared.code.Guard.{Guard}
 use Rattle.vk_code.specs.declared.instruction.Instr.{Instr}
 use Rattle.vk_format.specs.declared.rules.ObjectRule.TheVariants.{O7}
-use Rattle.vk_format.specs.Codec.{Codec, number, block, field, judged, seen, items, list, given, exactly_number, ◌▹◌}
+use Rattle.vk_format.specs.Codec.{Codec, number, block, field, judged, seen, written_by, items, list, given, exactly_number, ◌▹◌}
 use Rattle.vk_code_format.specs.declared.rows.ShapeKind.{ShapeKind}
 use Rattle.vk_code_format.specs.declared.rows.ShapeKind.TheVariants.{Vector, Uniform, By, Along, Literal, Same}
 use Rattle.vk_code_format.specs.declared.rows.ArgRow.{ArgRow}
@@ -132,10 +132,17 @@ abbrev pub number_of : BodyRow → ℕ
 number_of (Inline r) = 0
 number_of (Number n) = n
 
+abbrev pub body_bytes : BodyRow → List ℕ
+body_bytes (Inline r) = (routine {R = ℕ} (in_object 0 0)).write r
+body_bytes (Number n) = little_bytes 4 n
+
+abbrev pub body_in : {R : Type 0} → Place → ℕ → Codec R BodyRow
+body_in (in_object functions params) captures = seen Inline inline_of (routine (in_object functions (1 + captures)))
+body_in (in_image codes) captures = seen Number number_of (below codes)
+
 -- an object has a loop's body in it, whose parameters are the loop's variable and the captures; an image names its code
 abbrev pub body : {R : Type 0} → Place → ℕ → Codec R BodyRow
-body (in_object functions params) captures = seen Inline inline_of (routine (in_object functions (1 + captures)))
-body (in_image codes) captures = seen Number number_of (below codes)
+body place captures = written_by body_bytes (body_in place captures)
 
 abbrev pub loop_site : {R : Type 0} → Place → Codec R LoopRow
 loop_site place =

@@ -7,7 +7,7 @@ use Rattle.vk_format.specs.declared.rules.ObjectRule.{ObjectRule}
 use Rattle.vk_format.specs.declared.rules.ObjectRule.TheVariants.{O4}
 use Rattle.vk_format.specs.declared.rules.ObjectFault.{ObjectFault}
 use Rattle.vk_format.specs.Format.{Format, Field, fault, judge}
-use Rattle.vk_format.specs.Codec.{Codec, number, some_bytes, block, ◌▸◌, field, wanted, meaning, passing, judged, seen, write_after, read_after, FitAfter, items, many, list, text, given, only_if, mismatch_from, spelled, exactly, ◌▹◌, last, whole, Sound}
+use Rattle.vk_format.specs.Codec.{Codec, number, some_bytes, block, ◌▸◌, field, wanted, meaning, passing, judged, seen, written_by, write_after, read_after, FitAfter, items, many, list, text, given, only_if, mismatch_from, spelled, exactly, ◌▹◌, last, whole, Sound}
 use Rattle.vk_format.specs.Bytes.{IsBytes}
 use Rattle.vk_format.proofs.Bytes.{IsBytes-drop, IsBytes-take, all_bytes, bytes_again, number_fits, number_again, length-little_bytes}
 
@@ -212,6 +212,20 @@ seen_law to from c law back = record {
         onward = rw same t.onward;
       };
 }
+
+pub written_by_law : {R A : Type 0} (bytes : A → List ℕ) (c : Codec R A) → IsCodec c → ((a : A) → c.fits a → bytes a ≡ c.write a) → IsCodec (written_by bytes c)
+written_by_law bytes c law agree = record {
+  again = λ a fits at rest next. rw fits.1 (law.again a fits.0 at rest next);
+  takes = λ at bs next r are h.
+      let t = law.takes at bs next r are h in
+      let same : bytes t.value ≡ c.write t.value = agree t.value t.value_fits in
+      record {
+        value = t.value;
+        rest = t.rest;
+        value_fits = (t.value_fits, same);
+        parts = rw same t.parts;
+        rest_fits = t.rest_fits;
+        onward = rw same t.onward } }
 
 -- ---- lists
 

@@ -81,6 +81,13 @@ seen to from c = record {
   fits = λ b. c.fits (from b) × (to (from b) ≡ b);
 }
 
+-- the same fields, where other values have bytes too
+abbrev pub written_by : {R A : Type 0} → (A → List ℕ) → Codec R A → Codec R A
+written_by bytes c = record {
+  write = bytes;
+  read = λ at next. c.read at next;
+  fits = λ a. c.fits a × (bytes a ≡ c.write a) }
+
 -- ---- lists
 
 -- the items that follow others; each goes by those before it

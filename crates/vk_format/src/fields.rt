@@ -75,3 +75,24 @@ pub fn put_u64(out: &mut Vec<u8>, number: u64) -> Result<(), Memory>
     out.extend_from_slice(&field)?;
     Ok(())
 }
+
+/// Writes a count as one byte.
+pub fn put_count_u8(out: &mut Vec<u8>, count: usize) -> Result<(), Memory>
+    ensures written { OnOk result (out.new.items ≡ out.old.items ++ little_bytes 1 count) }
+{
+    put_u8(out, (count % 256) as u8)
+}
+
+/// Writes a count as two bytes.
+pub fn put_count_u16(out: &mut Vec<u8>, count: usize) -> Result<(), Memory>
+    ensures written { OnOk result (out.new.items ≡ out.old.items ++ little_bytes 2 count) }
+{
+    put_u16(out, (count % 65536) as u16)
+}
+
+/// Writes a count as four bytes.
+pub fn put_count_u32(out: &mut Vec<u8>, count: usize) -> Result<(), Memory>
+    ensures written { OnOk result (out.new.items ≡ out.old.items ++ little_bytes 4 count) }
+{
+    put_u32(out, (count % 4294967296) as u32)
+}
