@@ -4,7 +4,7 @@ use Rattle.byteorder.specs.Endian.{little_bytes, little_number}
 use Rattle.vk_code.specs.declared.code.Guard.{Guard}
 use Rattle.vk_code.specs.declared.instruction.Instr.{Instr}
 use Rattle.vk_format.specs.declared.rules.ObjectRule.TheVariants.{O7}
-use Rattle.vk_format.specs.Codec.{Codec, number, block, field, judged, seen, written_by, items, list, given, exactly_number, ◌▹◌}
+use Rattle.vk_format.specs.Codec.{Codec, number, block, field, judged, seen, written_by, repeated, list, given, exactly_number, ◌▹◌}
 use Rattle.vk_code_format.specs.declared.rows.ShapeKind.{ShapeKind}
 use Rattle.vk_code_format.specs.declared.rows.ShapeKind.TheVariants.{Vector, Uniform, By, Along, Literal, Same}
 use Rattle.vk_code_format.specs.declared.rows.ArgRow.{ArgRow}
@@ -70,7 +70,7 @@ object_slot functions =
     field (λ s. length s.args) (number 1) λ count.
     field (λ s. s.always) flag λ always.
     field (λ s. s.result) register_or_none λ result.
-    field (λ s. s.args) (items count (λ before. argument)) λ args.
+    field (λ s. s.args) (repeated count argument) λ args.
     given (record { function = function; always = always; result = result; args = args })
 
 -- in an image it has the count alone
@@ -79,7 +79,7 @@ image_slot =
     field (λ s. s.function) (number 1) λ count.
     field (λ s. s.always) flag λ always.
     field (λ s. s.result) register_or_none λ result.
-    field (λ s. s.args) (items count (λ before. argument)) λ args.
+    field (λ s. s.args) (repeated count argument) λ args.
     given (record { function = count; always = always; result = result; args = args })
 
 abbrev pub slot : {R : Type 0} → Place → Codec R SlotRow

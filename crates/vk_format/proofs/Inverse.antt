@@ -1,5 +1,5 @@
 -- What is read was written, and what is written is read: for each way of joining fields.
-use Rattle.std.proofs.Common.{◌≡◌, ℕ, zero, suc, ◌+◌, ◌≤◌, Bool, true, false, cond, ltb, eqb, List, [], ◌∷◌, ◌++◌, length, take, drop, Option, Some, None, Ok, Err, refl, sym, ap, ◌∙◌, subst, arith, append_assoc, append-nil}
+use Rattle.std.proofs.Common.{flat_map, ◌≡◌, ℕ, zero, suc, ◌+◌, ◌≤◌, Bool, true, false, cond, ltb, eqb, List, [], ◌∷◌, ◌++◌, length, take, drop, map, Option, Some, None, Ok, Err, refl, sym, ap, ◌∙◌, subst, arith, append_assoc, append-nil}
 use Rattle.std.proofs.lemmas.Bool.{ltb-false, le-ltb, eq-eqb, eqb-true}
 use Rattle.std.proofs.lemmas.List.{take_at, drop_at, take-append-drop, length-append, length-take}
 use Rattle.byteorder.specs.Endian.{little_bytes, little_number}
@@ -7,7 +7,7 @@ use Rattle.vk_format.specs.declared.rules.ObjectRule.{ObjectRule}
 use Rattle.vk_format.specs.declared.rules.ObjectRule.TheVariants.{O4}
 use Rattle.vk_format.specs.declared.rules.ObjectFault.{ObjectFault}
 use Rattle.vk_format.specs.Format.{Format, Field, fault, judge}
-use Rattle.vk_format.specs.Codec.{Codec, number, some_bytes, block, ◌▸◌, field, wanted, meaning, passing, judged, seen, written_by, write_after, read_after, FitAfter, items, many, list, text, given, only_if, mismatch_from, spelled, exactly, ◌▹◌, last, whole, Sound}
+use Rattle.vk_format.specs.Codec.{Codec, number, some_bytes, block, ◌▸◌, field, wanted, meaning, passing, judged, seen, written_by, write_after, read_after, FitAfter, items, many, repeated, list, text, given, only_if, mismatch_from, spelled, exactly, ◌▹◌, last, whole, Sound}
 use Rattle.vk_format.specs.Bytes.{IsBytes}
 use Rattle.vk_format.proofs.Bytes.{IsBytes-drop, IsBytes-take, all_bytes, bytes_again, number_fits, number_again, length-little_bytes}
 
@@ -302,8 +302,23 @@ many_law {A = A} count c first law =
     seen_law (λ (x : ℕ × List A). x.1) (λ xs. (length xs, xs)) (count ▸ λ n. items n (c n)) (then_law count (λ n. items n (c n)) first (λ n. items_law n (c n) (law n)))
     (λ x fits. ap (λ (k : ℕ). (k, x.1)) fits.1.0)
 
+-- items whose bytes don't go by those before them
+pub write_all : {R A B : Type 0} (c : List A → Codec R A) (f : B → A) (bytes : B → List ℕ) → ((before : List A) (x : B) → (c before).write (f x) ≡ bytes x)
+    → (before : List A) (xs : List B) → write_after c before (map f xs) ≡ flat_map bytes xs
+write_all c f bytes same before [] = refl
+write_all c f bytes same before (x ∷ xs) = rw (same before x, write_all c f bytes same (before ++ f x ∷ []) xs) refl
+
+flat_written : {R A : Type 0} (c : Codec R A) (before xs : List A) → flat_map c.write xs ≡ write_after (λ b. c) before xs
+flat_written c before [] = refl
+flat_written c before (x ∷ xs) = ap (λ ys. c.write x ++ ys) (flat_written c (before ++ x ∷ []) xs)
+
+pub repeated_law : {R A : Type 0} (n : ℕ) (c : Codec R A) → IsCodec c → IsCodec (repeated n c)
+repeated_law n c law = written_by_law (λ xs. flat_map c.write xs) (items n (λ before. c)) (items_law n (λ before. c) (λ before. law)) (λ xs fits. flat_written c [] xs)
+
 pub list_law : {R A : Type 0} (count : Codec R ℕ) (c : Codec R A) → IsCodec count → IsCodec c → IsCodec (list count c)
-list_law count c first law = many_law count (λ n before. c) first (λ n before. law)
+list_law {A = A} count c first law =
+    seen_law (λ (x : ℕ × List A). x.1) (λ xs. (length xs, xs)) (count ▸ λ n. repeated n c) (then_law count (λ n. repeated n c) first (λ n. repeated_law n c law))
+      (λ x fits. ap (λ (k : ℕ). (k, x.1)) fits.1.0.0)
 
 pub text_law : {R : Type 0} → IsCodec (text {R = R})
 text_law =

@@ -1,6 +1,6 @@
 -- A table of fields: how values are written, how they are read from a place on, and which values have bytes.
 use Rattle.std.specs.Prelude.{◌≡◌, ◌<◌, ◌^◌, ℕ, zero, suc, ◌+◌, ◌==◌, Bool, true, false, if◌then◌else◌, List, [], ◌∷◌, ◌++◌, length, Option, Some, None, IsSomeAnd}
-use Rattle.std.specs.List.{AllByRecursion}
+use Rattle.std.specs.List.{AllByRecursion, flat_map}
 use Rattle.byteorder.specs.Endian.{little_bytes, little_number}
 use Rattle.vk_format.specs.declared.rules.ObjectRule.{ObjectRule}
 use Rattle.vk_format.specs.declared.rules.ObjectFault.{ObjectFault}
@@ -115,9 +115,13 @@ items n c = record {
 abbrev pub many : {R A : Type 0} → Codec R ℕ → (ℕ → List A → Codec R A) → Codec R (List A)
 many count c = seen (λ x. x.1) (λ xs. (length xs, xs)) (count ▸ λ n. items n (c n))
 
--- the same where items don't go by the count and by those before them
+-- so many items alike
+abbrev pub repeated : {R A : Type 0} → ℕ → Codec R A → Codec R (List A)
+repeated n c = written_by (λ xs. flat_map c.write xs) (items n (λ before. c))
+
+-- a count, and then so many items alike
 abbrev pub list : {R A : Type 0} → Codec R ℕ → Codec R A → Codec R (List A)
-list count c = many count (λ n before. c)
+list count c = seen (λ x. x.1) (λ xs. (length xs, xs)) (count ▸ λ n. repeated n c)
 
 -- a text: its length in two bytes and its bytes, together one field
 abbrev pub text : {R : Type 0} → Codec R (List ℕ)

@@ -18,7 +18,7 @@ use Rattle.vk_object.specs.Texts.{between, ends_well, is_before, is_identifier}
 use Rattle.vk_format.specs.declared.rules.ObjectFault.{ObjectFault}
 use Rattle.vk_format.specs.declared.rules.ObjectRule.TheVariants.{O1, O2, O3, O6, O7, O8, O9}
 use Rattle.vk_format.specs.Format.{Format, fault, judge}
-use Rattle.vk_format.specs.Codec.{Codec, number, ◌▹◌, field, given, meaning, judged, items, many, list, text, exactly, exactly_number, whole, Sound}
+use Rattle.vk_format.specs.Codec.{Codec, number, ◌▹◌, field, given, meaning, judged, repeated, many, list, text, exactly, exactly_number, whole, Sound}
 use Rattle.vk_code_format.specs.declared.rows.CodeRow.{CodeRow}
 use Rattle.vk_code_format.specs.Codes.{in_image, code}
 use Rattle.vk_code_format.specs.Fields.{coded, flag, below, target, int_type, element, last_of, comes_after, or_else, unless, first_along}
@@ -116,7 +116,7 @@ abbrev pub entry_front : {R : Type 0} → List CodeRow → Option EntryName → 
 entry_front codes last = judged O7 (λ e. are_kinds (map param_of e.params)) (
     field (λ e. e.name) (entry_name last) λ name.
     field (λ e. e.code) (below (length codes)) λ code.
-    field (λ e. e.params) (items (params_of name.kind (slice_get codes code)) (λ before. param None)) λ params.
+    field (λ e. e.params) (repeated (params_of name.kind (slice_get codes code)) (param None)) λ params.
     given (record { name = name; code = code; params = params }) )
 
 abbrev pub loop_targets : {R : Type 0} → ℕ → Codec R LoopTargets
@@ -137,8 +137,8 @@ loops_of (Some c) = length c.loops
 abbrev pub entry : {R : Type 0} → List CodeRow → ℕ → List RawEntry → Codec R RawEntry
 entry codes entries before =
     field (λ e. e.front) (entry_front codes (option_map (λ e. e.front.name) (last_of before))) λ front.
-    field (λ e. e.targets) (items (slots_of (slice_get codes front.code)) (λ b. below entries)) λ targets.
-    field (λ e. e.loops) (items (loops_of (slice_get codes front.code)) (λ b. loop_targets entries)) λ loops.
+    field (λ e. e.targets) (repeated (slots_of (slice_get codes front.code)) (below entries)) λ targets.
+    field (λ e. e.loops) (repeated (loops_of (slice_get codes front.code)) (loop_targets entries)) λ loops.
     given (record { front = front; targets = targets; loops = loops })
 
 -- ---- the image

@@ -11,7 +11,7 @@ use Rattle.vk_object.specs.Texts.{ends_well, is_before}
 use Rattle.vk_format.specs.declared.rules.ObjectFault.{ObjectFault}
 use Rattle.vk_format.specs.declared.rules.ObjectRule.TheVariants.{O1, O2, O6, O7, O9}
 use Rattle.vk_format.specs.Format.{Format, fault, judge}
-use Rattle.vk_format.specs.Codec.{Codec, number, ◌▹◌, field, given, judged, items, many, list, text, only_if, exactly, exactly_number, whole, Sound}
+use Rattle.vk_format.specs.Codec.{Codec, number, ◌▹◌, field, given, judged, items, repeated, many, list, text, only_if, exactly, exactly_number, whole, Sound}
 use Rattle.vk_code_format.specs.declared.rows.CodeRow.{CodeRow}
 use Rattle.vk_code_format.specs.Codes.{Place, in_object, code}
 use Rattle.vk_code_format.specs.Fields.{coded, flag, bit, below, simdlen, target, int_type, value_type, result_type, element, last_of, comes_after, or_else, unless, first_along}
@@ -81,7 +81,7 @@ directive target head before = judged O7 (is_directive_after target head before)
 abbrev pub function_codes : {R : Type 0} → Place → ℕ → Codec R RawCodes
 function_codes place directives =
     field (λ c. c.scalar) (code place) λ scalar.
-    field (λ c. c.lanes) (items directives (λ before. code place)) λ lanes.
+    field (λ c. c.lanes) (repeated directives (code place)) λ lanes.
     given (record { scalar = scalar; lanes = lanes })
 
 abbrev pub function : {R : Type 0} → Target → ℕ → ℕ → List RawFunction → Codec R RawFunction
