@@ -11,6 +11,6 @@ use Rattle.vk_code_format.proofs.Fields.{coded_law, optional_law}
 pub param_law : {R : Type 0} (t : Option CType) → IsCodec (param {R = R} t)
 param_law t =
     field_law (λ p. p.kind) (judged O7 (kind_fits t) (coded O7 param_kinds kind_number)) _ (judged_law O7 _ _ (coded_law O7 param_kinds kind_number (refl, (refl, (refl, (refl, tt)))))) (λ kind.
-      field_law (λ p. p.value) (judged O7 (value_fits t kind) (number 4)) _ (judged_law O7 _ (number 4) (number_law 4)) (λ value.
-        field_law (λ p. p.align) (judged O7 (align_fits t) (optional 4 0)) _ (judged_law O7 _ (optional 4 0) (optional_law 4 0)) (λ align.
-          given_law _) (λ align p f. ap (λ q. q.align) f)) (λ value p f. ap (λ q. q.value) f.1)) (λ kind p f. ap (λ q. q.kind) f.1.1)
+    field_law (λ p. p.value) (judged O7 (value_fits t kind) (number 4)) _ (judged_law O7 _ (number 4) (number_law 4)) (λ value.
+    field_law (λ p. p.align) (judged O7 (align_fits t) (optional 4 0)) _ (judged_law O7 _ (optional 4 0) (optional_law 4 0)) (λ align.
+    given_law _) (λ align p f. ap (λ q. q.align) f)) (λ value p f. ap (λ q. q.value) f.1)) (λ kind p f. ap (λ q. q.kind) f.1.1)

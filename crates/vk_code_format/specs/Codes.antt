@@ -31,7 +31,8 @@ instr_of bytes = record {
   m = little_number 2 (drop 2 bytes);
   d = little_number 2 (drop 4 bytes);
   a = little_number 2 (drop 6 bytes);
-  imm = little_number 8 (drop 8 bytes) }
+  imm = little_number 8 (drop 8 bytes);
+}
 
 abbrev pub instr_bytes : Instr → List ℕ
 instr_bytes i = little_bytes 1 i.op ++ (little_bytes 1 i.ty ++ (little_bytes 2 i.m ++ (little_bytes 2 i.d ++ (little_bytes 2 i.a ++ little_bytes 8 i.imm))))

@@ -44,7 +44,8 @@ routine_of c loops = record {
   masks = c.front.masks;
   slots = map call_of c.front.slots;
   loops = loops;
-  instrs = c.instrs }
+  instrs = c.instrs;
+}
 
 abbrev pub body_of : BodyRow → LoopBody
 body_of (Inline r) = own (routine_of r 0)
@@ -75,7 +76,8 @@ slot_row s = record { function = s.function; always = s.always; result = s.resul
 abbrev pub routine_row : Routine → RoutineRow
 routine_row c = record {
   front = record { lane_code = c.lane_code; result = c.result; params = c.params; regs = c.regs; masks = c.masks; slots = map slot_row c.slots };
-  instrs = c.instrs }
+  instrs = c.instrs;
+}
 
 abbrev pub body_row : LoopBody → BodyRow
 body_row (own r) = Inline (routine_row r)

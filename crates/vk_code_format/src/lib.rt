@@ -4,5 +4,6 @@
 pub mod rows;
 
 pub use rows::{
-    ArgRow, BodyRow, CodeRow, FrontRow, LoopRow, ParamKind, ParamRow, RoutineRow, ShapeKind, SlotRow,
+    ArgRow, BodyRow, CodeRow, FrontRow, LoopRow, ParamKind, ParamRow, RoutineRow, ShapeKind,
+    SlotRow,
 };

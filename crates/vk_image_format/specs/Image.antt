@@ -67,7 +67,7 @@ array before = judged O6 (λ a. ends_well a.elements) (
     field (λ a. a.fixed) flag λ fixed.
     field (λ a. a.length) (number 4) λ count.
     field (λ a. a.elements) (list (judged O7 (λ given. nat_le given count) (number 4)) (element ty)) λ elements.
-    given (record { text = text; ty = ty; fixed = fixed; length = count; elements = elements }) )
+    given (record { text = text; ty = ty; fixed = fixed; length = count; elements = elements }))
 
 -- ---- entries
 
@@ -104,7 +104,7 @@ entry_name last = judged O6 (where_some name_before last) (
     field (λ n. n.text) (judged O6 (where_some keeps_order last) (judged O7 is_entry_text text)) λ text.
     field (λ n. n.kind) (coded O7 entry_kinds kind_number) λ kind.
     field (λ n. n.lanes) (judged O7 (has_lanes kind) (number 2)) λ lanes.
-    given (record { text = text; kind = kind; lanes = lanes }) )
+    given (record { text = text; kind = kind; lanes = lanes }))
 
 -- a variant has its code's parameters
 abbrev pub params_of : EntryKind → Option CodeRow → ℕ
@@ -117,7 +117,7 @@ entry_front codes last = judged O7 (λ e. are_kinds (map param_of e.params)) (
     field (λ e. e.name) (entry_name last) λ name.
     field (λ e. e.code) (below (length codes)) λ code.
     field (λ e. e.params) (repeated (params_of name.kind (slice_get codes code)) (param None)) λ params.
-    given (record { name = name; code = code; params = params }) )
+    given (record { name = name; code = code; params = params }))
 
 abbrev pub loop_targets : {R : Type 0} → ℕ → Codec R LoopTargets
 loop_targets entries =
@@ -206,7 +206,7 @@ code_fault i k at c = option_map (λ part. fault (at + part_at (in_image (length
 
 -- a test of an entry and its code
 abbrev pub by_code : Tables → (Listing → Option ObjectFault) → RawEntry → Option ObjectFault
-by_code image faults e = elim (code_of image (entry_of e)) as (λ _. Option ObjectFault) [ | None ↦ None | Some c ↦ faults c ]
+by_code image faults e = elim (code_of image (entry_of e)) as (λ _. Option ObjectFault) [ None ↦ None | Some c ↦ faults c ]
 
 -- kinds 0 to 3 have the code of a function
 abbrev pub kind_fault : Tables → ℕ → ℕ → RawEntry → Option ObjectFault
@@ -261,9 +261,12 @@ image_faults i end =
 abbrev pub image_format : Format RawImage
 image_format = whole image_faults image_table
 
+abbrev pub table_bytes : RawImage → List ℕ
+table_bytes i = (image_table {R = RawImage}).write i
+
 -- the one spelling of an image with a main
 abbrev pub image_bytes : Tables → List ℕ
-image_bytes t = (image_table {R = RawImage}).write (raw_image t)
+image_bytes t = table_bytes (raw_image t)
 
 -- its fields are in their ranges, and no condition over the tables is broken
 abbrev pub IsImage : RawImage → Type 0

@@ -20,7 +20,8 @@ entry_of e = record {
   code = e.front.code;
   params = map param_of e.front.params;
   targets = e.targets;
-  loops = e.loops }
+  loops = e.loops;
+}
 
 abbrev pub tables_of : RawImage → Tables
 tables_of i = record {
@@ -30,7 +31,8 @@ tables_of i = record {
   main = Some i.main;
   arrays = map array_of i.arrays;
   codes = map listing_of i.codes;
-  entries = map entry_of i.entries }
+  entries = map entry_of i.entries;
+}
 
 -- ---- the tables of an image
 
@@ -41,7 +43,8 @@ abbrev pub raw_entry : EntryLists → RawEntry
 raw_entry e = record {
   front = record { name = record { text = e.text; kind = e.kind; lanes = e.lanes }; code = e.code; params = map param_row e.params };
   targets = e.targets;
-  loops = e.loops }
+  loops = e.loops;
+}
 
 -- an image without a main has no bytes of its own
 abbrev pub main_number : Option ℕ → ℕ
@@ -56,4 +59,5 @@ raw_image t = record {
   main = main_number t.main;
   arrays = map raw_array t.arrays;
   codes = map code_row t.codes;
-  entries = map raw_entry t.entries }
+  entries = map raw_entry t.entries;
+}

@@ -49,7 +49,7 @@ member symbols before = judged O6 (λ d. ends_well d.elements) (
     field (λ d. (d.fixed, d.defined)) flags λ flags.
     field (λ d. d.length) (number 4) λ count.
     field (λ d. d.elements) (list (judged O7 (λ given. nat_le given (cond flags.1 count 0)) (number 4)) (element ty)) λ elements.
-    given (record { symbol = symbol; ty = ty; fixed = flags.0; defined = flags.1; length = count; elements = elements }) )
+    given (record { symbol = symbol; ty = ty; fixed = flags.0; defined = flags.1; length = count; elements = elements }))
 
 -- ---- directives
 
@@ -73,7 +73,7 @@ directive target head before = judged O7 (is_directive_after target head before)
     field (λ d. d.branch) (coded O7 branches branch_number) λ branch.
     field (λ d. d.simdlen) simdlen λ simdlen.
     field (λ d. d.params) (items (length head.params) (λ params. param (slice_get head.params (length params)))) λ params.
-    given (record { branch = branch; simdlen = simdlen; params = params }) )
+    given (record { branch = branch; simdlen = simdlen; params = params }))
 
 -- ---- functions
 
@@ -160,9 +160,12 @@ object_faults o end =
 abbrev pub object_format : Format RawObject
 object_format = whole object_faults object_table
 
+abbrev pub table_bytes : RawObject → List ℕ
+table_bytes o = (object_table {R = RawObject}).write o
+
 -- the one spelling of an object
 abbrev pub object_bytes : ObjectLists → List ℕ
-object_bytes o = (object_table {R = RawObject}).write (raw_object o)
+object_bytes o = table_bytes (raw_object o)
 
 -- its fields are in their ranges, and no condition over the tables is broken
 abbrev pub IsObject : RawObject → Type 0
