@@ -1,9 +1,9 @@
 // Code.
 
-ghost use Rattle.std.specs.Prelude.{◌≡◌, ◌++◌, OnOk};
+ghost use Rattle.std.specs.Prelude.{◌≡◌, ◌++◌, map, OnOk};
 ghost use Rattle.byteorder.specs.Endian.{little_bytes};
-ghost use Rattle.vk_code.specs.Listing.{body_of, call_site_of, routine_of};
-ghost use Rattle.vk_code_write.specs.Inner.Bytes.{body_bytes, front_bytes, instrs_bytes, numbers_bytes, params_bytes, routine_bytes, shape_bytes, slot_head};
+ghost use Rattle.vk_code.specs.Listing.{body_of, call_site_of, routine_of, simd_site_of};
+ghost use Rattle.vk_code_write.specs.Inner.Bytes.{body_bytes, front_bytes, instrs_bytes, loops_bytes, numbers_bytes, params_bytes, routine_bytes, shape_bytes, slot_head, slots_bytes};
 
 use crate::parts::{put_flag, put_i32, put_register, put_simdlen};
 use crate::written::{FileKind, Written, put_all};
@@ -155,8 +155,7 @@ impl Written for Code {
 
     fn put(&self, file: FileKind, out: &mut Vec<u8>) -> Result<(), Memory> {
         put_front(out, file, self)?;
-        put_count_u16(out, self.loops.len())?;
-        put_all(&self.loops, file, out)?;
+        put_loops(out, file, &self.loops)?;
         put_instrs(out, self)
     }
 }
@@ -171,8 +170,21 @@ fn put_front(out: &mut Vec<u8>, file: FileKind, code: &Code) -> Result<(), Memor
     put_count_u16(out, code.regs.len())?;
     put_all(&code.regs, file, out)?;
     put_u16(out, code.masks)?;
-    put_count_u16(out, code.slots.len())?;
-    put_all(&code.slots, file, out)
+    put_slots(out, file, &code.slots)
+}
+
+fn put_slots(out: &mut Vec<u8>, file: FileKind, slots: &[Slot]) -> Result<(), Memory>
+    ensures written { OnOk result (out.new.items ≡ out.old.items ++ slots_bytes file (map call_site_of slots.now)) }
+{
+    put_count_u16(out, slots.len())?;
+    put_all(slots, file, out)
+}
+
+fn put_loops(out: &mut Vec<u8>, file: FileKind, loops: &[LoopSite]) -> Result<(), Memory>
+    ensures written { OnOk result (out.new.items ≡ out.old.items ++ loops_bytes file (map simd_site_of loops.now)) }
+{
+    put_count_u16(out, loops.len())?;
+    put_all(loops, file, out)
 }
 
 // An image tells the number of parameters.

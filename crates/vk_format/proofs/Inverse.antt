@@ -1,7 +1,7 @@
 -- What is read was written, and what is written is read: for each way of joining fields.
 use Rattle.std.proofs.Common.{flat_map, ◌≡◌, ℕ, zero, suc, ◌+◌, ◌≤◌, Bool, true, false, cond, ltb, eqb, List, [], ◌∷◌, ◌++◌, length, take, drop, map, Option, Some, None, Ok, Err, refl, sym, ap, ◌∙◌, subst, arith, append_assoc, append-nil}
 use Rattle.std.proofs.lemmas.Bool.{ltb-false, le-ltb, eq-eqb, eqb-true}
-use Rattle.std.proofs.lemmas.List.{take_at, drop_at, take-append-drop, length-append, length-take}
+use Rattle.std.proofs.lemmas.List.{length-map, take_at, drop_at, take-append-drop, length-append, length-take}
 use Rattle.byteorder.specs.Endian.{little_bytes, little_number}
 use Rattle.vk_format.specs.declared.rules.ObjectRule.{ObjectRule}
 use Rattle.vk_format.specs.declared.rules.ObjectRule.TheVariants.{O4}
@@ -307,6 +307,23 @@ pub write_all : {R A B : Type 0} (c : List A → Codec R A) (f : B → A) (bytes
     → (before : List A) (xs : List B) → write_after c before (map f xs) ≡ flat_map bytes xs
 write_all c f bytes same before [] = refl
 write_all c f bytes same before (x ∷ xs) = rw (same before x, write_all c f bytes same (before ++ f x ∷ []) xs) refl
+
+pub flat_all : {R A B : Type 0} (c : Codec R A) (f : B → A) (bytes : B → List ℕ) → ((x : B) → c.write (f x) ≡ bytes x) → (xs : List B) → flat_map c.write (map f xs) ≡ flat_map bytes xs
+flat_all c f bytes same [] = refl
+flat_all c f bytes same (x ∷ xs) = rw (same x, flat_all c f bytes same xs) refl
+
+-- a list of members, by the bytes of each
+pub list_written : {R A B : Type 0} (width : ℕ) (c : Codec R A) (f : B → A) (bytes : B → List ℕ) → ((x : B) → c.write (f x) ≡ bytes x)
+    → (xs : List B) → (list (number width) c).write (map f xs) ≡ little_bytes width (length xs) ++ flat_map bytes xs
+list_written width c f bytes same xs =
+    ap (λ n. little_bytes width n ++ flat_map c.write (map f xs)) (length-map xs f) ∙ ap (λ ys. little_bytes width (length xs) ++ ys) (flat_all c f bytes same xs)
+
+-- the same where members go by those before them
+pub many_written : {R A B : Type 0} (width : ℕ) (c : ℕ → List A → Codec R A) (f : B → A) (bytes : B → List ℕ) → ((n : ℕ) (before : List A) (x : B) → (c n before).write (f x) ≡ bytes x)
+    → (xs : List B) → (many (number width) c).write (map f xs) ≡ little_bytes width (length xs) ++ flat_map bytes xs
+many_written width c f bytes same xs =
+    ap (λ n. little_bytes width n ++ write_after (c n) [] (map f xs)) (length-map xs f)
+    ∙ ap (λ ys. little_bytes width (length xs) ++ ys) (write_all (c (length xs)) f bytes (same (length xs)) [] xs)
 
 flat_written : {R A : Type 0} (c : Codec R A) (before xs : List A) → flat_map c.write xs ≡ write_after (λ b. c) before xs
 flat_written c before [] = refl

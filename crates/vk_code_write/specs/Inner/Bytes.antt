@@ -73,6 +73,9 @@ slot_head Image s = little_bytes 1 s.function
 abbrev pub slot_bytes : FileKind → CallSite → List ℕ
 slot_bytes file s = slot_head file s ++ (little_bytes 1 (bit s.always) ++ (little_bytes 2 (or_none 65535 s.result) ++ flat_map arg_bytes s.args))
 
+abbrev pub slots_bytes : FileKind → List CallSite → List ℕ
+slots_bytes file sites = little_bytes 2 (length sites) ++ flat_map (slot_bytes file) sites
+
 -- ---- code
 
 abbrev pub params_bytes : FileKind → ℕ → List ℕ
@@ -86,7 +89,7 @@ abbrev pub front_bytes : FileKind → Routine → List ℕ
 front_bytes file c =
     little_bytes 1 (bit c.lane_code) ++ (little_bytes 2 (or_none 65535 c.result) ++ (params_bytes file c.params
     ++ (little_bytes 2 (length c.regs) ++ (flat_map type_bytes c.regs ++ (little_bytes 2 c.masks
-    ++ (little_bytes 2 (length c.slots) ++ flat_map (slot_bytes file) c.slots))))))
+    ++ slots_bytes file c.slots)))))
 
 abbrev pub instrs_bytes : List Instr → List ℕ
 instrs_bytes is = little_bytes 4 (length is) ++ flat_map instr_bytes is
@@ -107,6 +110,9 @@ loop_bytes file l =
     ++ (little_bytes 2 (length l.captures) ++ (flat_map (little_bytes 2) l.captures
     ++ (little_bytes 2 (length l.guards) ++ (flat_map guard_bytes l.guards ++ body_bytes l.body))))))
 
+abbrev pub loops_bytes : FileKind → List SimdSite → List ℕ
+loops_bytes file sites = little_bytes 2 (length sites) ++ flat_map (loop_bytes file) sites
+
 abbrev pub code_bytes : FileKind → Listing → List ℕ
 code_bytes file c =
-    front_bytes file c.routine ++ (little_bytes 2 (length c.loops) ++ (flat_map (loop_bytes file) c.loops ++ instrs_bytes c.routine.instrs))
+    front_bytes file c.routine ++ (loops_bytes file c.loops ++ instrs_bytes c.routine.instrs)

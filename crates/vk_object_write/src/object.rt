@@ -1,0 +1,48 @@
+// The bytes of an object.
+
+ghost use Rattle.std.specs.Prelude.{◌≡◌, ◌++◌, IfOk, OnOk};
+ghost use Rattle.vk_object_format.specs.Object.{object_bytes};
+ghost use Rattle.vk_object_write.specs.Lists.{object_lists};
+ghost use Rattle.vk_object_write.specs.Inner.Bytes.{header_bytes, lists_bytes};
+
+use crate::functions::put_functions;
+use crate::symbols::{put_objects, put_symbols};
+use std::alloc::Global;
+use vk_format::fields::{put_count_u32, put_u8, put_u16};
+use vk_kinds::Target;
+use vk_memory::Memory;
+use vk_object::Object;
+
+/// The bytes of an object: the one text that the table of its fields gives it.
+pub fn write_object(alloc: Global, object: &Object) -> Result<Vec<u8>, Memory>
+    ensures bytes { IfOk result (λ bytes. bytes.items ≡ object_bytes (object_lists object.now)) }
+{
+    let mut out = Vec::new(alloc);
+    put_lists(&mut out, object)?;
+    Ok(out)
+}
+
+fn put_lists(out: &mut Vec<u8>, object: &Object) -> Result<(), Memory>
+    ensures written { OnOk result (out.new.items ≡ out.old.items ++ lists_bytes (object_lists object.now)) }
+{
+    put_header(out, object.target)?;
+    put_count_u32(out, object.symbols.len())?;
+    put_symbols(out, &object.symbols)?;
+    put_count_u32(out, object.objects.len())?;
+    put_objects(out, &object.objects)?;
+    put_count_u32(out, object.functions.len())?;
+    put_functions(out, &object.functions)
+}
+
+// The first bytes, the version, the target and a byte 0.
+fn put_header(out: &mut Vec<u8>, target: Target) -> Result<(), Memory>
+    ensures written { OnOk result (out.new.items ≡ out.old.items ++ header_bytes target) }
+{
+    out.extend_from_slice(b"VKOBJECT")?;
+    put_u16(out, 1)?;
+    match target {
+        Target::X86 => put_u8(out, 0)?,
+        Target::Arm => put_u8(out, 1)?,
+    }
+    put_u8(out, 0)
+}
