@@ -62,7 +62,7 @@ arg_written : (R : Type 0) (a : SlotArg) → (argument {R = R}).write (arg_row a
 arg_written R a = arg_by R a.reg a.shape
 
 args_written : (R : Type 0) (xs : List SlotArg) → flat_map (argument {R = R}).write (map arg_row xs) ++ [] ≡ flat_map arg_bytes xs
-args_written R xs = append-nil _ ∙ flat_all argument arg_row arg_bytes (arg_written R) xs
+args_written R xs = append-nil (flat_map (argument {R = R}).write (map arg_row xs)) ∙ flat_all (argument {R = R}) arg_row arg_bytes (arg_written R) xs
 
 slot_written : (R : Type 0) (place : Place) (s : CallSite) → (slot {R = R} place).write (slot_row s) ≡ slot_bytes (file_of place) s
 slot_written R (in_object functions params) s =
@@ -76,13 +76,13 @@ slot_written R (in_image codes) s =
 front_written : (R : Type 0) (place : Place) (c : Routine) → (front {R = R} place).write (routine_row c).front ≡ front_bytes (file_of place) c
 front_written R (in_object functions params) c =
     ap (λ ys. little_bytes 1 (bit c.lane_code) ++ (little_bytes 2 (or_none 65535 c.result) ++ (little_bytes 2 (length c.regs) ++ (flat_map type_bytes c.regs ++ (little_bytes 2 c.masks ++ ys)))))
-      (append-nil _ ∙ list_written 2 (slot (in_object functions params)) slot_row (slot_bytes Object) (slot_written R (in_object functions params)) c.slots)
+      (append-nil ((list (number 2) (slot {R = R} (in_object functions params))).write (map slot_row c.slots)) ∙ list_written 2 (slot {R = R} (in_object functions params)) slot_row (slot_bytes Object) (slot_written R (in_object functions params)) c.slots)
 front_written R (in_image codes) c =
     ap (λ ys. little_bytes 1 (bit c.lane_code) ++ (little_bytes 2 (or_none 65535 c.result) ++ (little_bytes 2 c.params ++ (little_bytes 2 (length c.regs) ++ (flat_map type_bytes c.regs ++ (little_bytes 2 c.masks ++ ys))))))
-      (append-nil _ ∙ list_written 2 (slot (in_image codes)) slot_row (slot_bytes Image) (slot_written R (in_image codes)) c.slots)
+      (append-nil ((list (number 2) (slot {R = R} (in_image codes))).write (map slot_row c.slots)) ∙ list_written 2 (slot {R = R} (in_image codes)) slot_row (slot_bytes Image) (slot_written R (in_image codes)) c.slots)
 
 instrs_written : (R : Type 0) (is : List Instr) → (instructions {R = R}).write is ++ [] ≡ instrs_bytes is
-instrs_written R is = append-nil _
+instrs_written R is = append-nil ((instructions {R = R}).write is)
 
 routine_written : (R : Type 0) (c : Routine) → (routine {R = R} (in_object 0 0)).write (routine_row c) ≡ routine_bytes c
 routine_written R c =
@@ -96,10 +96,10 @@ body_written R place captures (numbered n) = refl
 loop_written : (R : Type 0) (place : Place) (l : SimdSite) → (loop_site {R = R} place).write (loop_row l) ≡ loop_bytes (file_of place) l
 loop_written R place l =
     ap (λ ys. little_bytes 2 (or_none 0 l.simdlen) ++ (little_bytes 2 l.low ++ (little_bytes 2 l.high ++ (little_bytes 2 (length l.captures) ++ (flat_map (little_bytes 2) l.captures
-        ++ (little_bytes 2 (length l.guards) ++ (flat_map guard_bytes l.guards ++ ys))))))) (append-nil _ ∙ body_written R place (length l.captures) l.body)
+        ++ (little_bytes 2 (length l.guards) ++ (flat_map guard_bytes l.guards ++ ys))))))) (append-nil ((body {R = R} place (length l.captures)).write (body_row l.body)) ∙ body_written R place (length l.captures) l.body)
 
 pub code_written : (R : Type 0) (place : Place) (c : Listing) → (code {R = R} place).write (code_row c) ≡ code_bytes (file_of place) c
 code_written R place c =
     ap (λ xs. xs ++ ((list (number 2) (loop_site {R = R} place)).write (map loop_row c.loops) ++ ((instructions {R = R}).write c.routine.instrs ++ []))) (front_written R place c.routine)
-    ∙ ap (λ xs. front_bytes (file_of place) c.routine ++ (xs ++ ((instructions {R = R}).write c.routine.instrs ++ []))) (list_written 2 (loop_site place) loop_row (loop_bytes (file_of place)) (loop_written R place) c.loops)
+    ∙ ap (λ xs. front_bytes (file_of place) c.routine ++ (xs ++ ((instructions {R = R}).write c.routine.instrs ++ []))) (list_written 2 (loop_site {R = R} place) loop_row (loop_bytes (file_of place)) (loop_written R place) c.loops)
     ∙ ap (λ ys. front_bytes (file_of place) c.routine ++ (little_bytes 2 (length c.loops) ++ (flat_map (loop_bytes (file_of place)) c.loops ++ ys))) (instrs_written R c.routine.instrs)
