@@ -2,12 +2,14 @@
 
 ghost use Rattle.std.specs.Prelude.{◌≡◌, ℕ, ◌++◌, List, OnOk};
 ghost use Rattle.byteorder.specs.Endian.{little_bytes};
-ghost use Rattle.vk_code_format.specs.Fields.{bit, or_none};
+ghost use Rattle.vk_code_format.specs.Fields.{bit, or_none, target_number};
 ghost use Rattle.vk_code_format.specs.Parameters.{signed_bits};
-ghost use Rattle.vk_code_write.specs.Inner.Bytes.{elements_bytes};
+ghost use Rattle.vk_code_write.specs.Inner.Bytes.{elements_bytes, given_bytes, text_bytes};
+ghost use Rattle.vk_types.specs.Formats.{type_number};
 ghost use Rattle.vk_code_write.specs.Inner.Bytes.{element_bytes};
 
-use vk_format::fields::{put_u8, put_u16, put_u32, put_u64};
+use vk_format::fields::{put_count_u16, put_count_u32, put_u8, put_u16, put_u32, put_u64};
+use vk_kinds::Target;
 use vk_memory::Memory;
 use vk_types::{Ty, Word};
 
@@ -16,6 +18,40 @@ pub fn put_flag(out: &mut Vec<u8>, flag: bool) -> Result<(), Memory>
     ensures written { OnOk result (out.new.items ≡ out.old.items ++ little_bytes 1 (bit flag)) }
 {
     put_u8(out, u8::from(flag))
+}
+
+/// Writes a target.
+pub fn put_target(out: &mut Vec<u8>, target: Target) -> Result<(), Memory>
+    ensures written { OnOk result (out.new.items ≡ out.old.items ++ little_bytes 1 (target_number target)) }
+{
+    match target {
+        Target::X86 => put_u8(out, 0),
+        Target::Arm => put_u8(out, 1),
+    }
+}
+
+/// Writes the length and the bytes of a text.
+pub fn put_text(out: &mut Vec<u8>, text: &[u8]) -> Result<(), Memory>
+    ensures written { OnOk result (out.new.items ≡ out.old.items ++ text_bytes text.now) }
+{
+    put_count_u16(out, text.len())?;
+    out.extend_from_slice(text)?;
+    Ok(())
+}
+
+/// Writes the type of elements.
+pub fn put_ty(out: &mut Vec<u8>, ty: Ty) -> Result<(), Memory>
+    ensures written { OnOk result (out.new.items ≡ out.old.items ++ little_bytes 1 (type_number ty)) }
+{
+    put_u8(out, u8::from(ty))
+}
+
+/// Writes the count and the bytes of elements.
+pub fn put_given(out: &mut Vec<u8>, ty: Ty, elements: &[Word]) -> Result<(), Memory>
+    ensures written { OnOk result (out.new.items ≡ out.old.items ++ given_bytes ty elements.now) }
+{
+    put_count_u32(out, elements.len())?;
+    put_elements(out, ty, elements)
 }
 
 /// Writes a register, 65535 for none.
@@ -45,8 +81,8 @@ pub fn put_i32(out: &mut Vec<u8>, number: i32) -> Result<(), Memory>
     put_u32(out, number.cast_unsigned())
 }
 
-/// Writes the elements of an array.
-pub fn put_elements(out: &mut Vec<u8>, ty: Ty, elements: &[Word]) -> Result<(), Memory>
+// Writes the elements of an array.
+fn put_elements(out: &mut Vec<u8>, ty: Ty, elements: &[Word]) -> Result<(), Memory>
     ensures written { OnOk result (out.new.items ≡ out.old.items ++ elements_bytes ty elements.now) }
 {
     for element in elements {

@@ -1,23 +1,34 @@
 // Functions, their directives and codes.
 
-ghost use Rattle.std.specs.Prelude.{◌≡◌, ◌++◌, OnOk};
+ghost use Rattle.std.specs.Prelude.{◌≡◌, ◌++◌, map, Some, OnOk};
 ghost use Rattle.std.specs.List.{flat_map};
 ghost use Rattle.std.specs.Option.{option_map};
 ghost use Rattle.byteorder.specs.Endian.{little_bytes};
 ghost use Rattle.vk_kinds.specs.Sizes.{head_types, signature_tree};
 ghost use Rattle.vk_object.specs.Objects.{code_list_of, function_list_of};
 ghost use Rattle.vk_object_format.specs.Object.{branch_number};
-ghost use Rattle.vk_object_write.specs.Inner.Bytes.{codes_bytes, directive_bytes, function_bytes, head_bytes};
+ghost use Rattle.vk_object_write.specs.Inner.Bytes.{codes_bytes, directive_bytes, directives_bytes, function_bytes, functions_bytes, head_bytes};
+ghost use Rattle.vk_code.specs.Listing.{listing_of};
+ghost use Rattle.vk_code_write.specs.Inner.Bytes.{code_bytes};
+ghost use Rattle.vk_code_write.specs.declared.written.FileKind.TheVariants.{Object};
 
+use vk_code::Code;
 use vk_code_write::parts::{put_flag, put_simdlen};
 use vk_code_write::{FileKind, Written, put_all};
-use vk_format::fields::{put_count_u8, put_count_u16, put_u8, put_u32};
+use vk_format::fields::{put_count_u8, put_count_u16, put_count_u32, put_u8, put_u32};
 use vk_kinds::{Branch, Head, Signature};
 use vk_memory::Memory;
 use vk_object::{Codes, FunctionRow};
 
 /// Writes functions.
 pub(crate) fn put_functions(out: &mut Vec<u8>, functions: &[FunctionRow]) -> Result<(), Memory>
+    ensures written { OnOk result (out.new.items ≡ out.old.items ++ functions_bytes (map function_list_of functions.now)) }
+{
+    put_count_u32(out, functions.len())?;
+    put_each_function(out, functions)
+}
+
+fn put_each_function(out: &mut Vec<u8>, functions: &[FunctionRow]) -> Result<(), Memory>
     ensures written { OnOk result (out.new.items ≡ out.old.items ++ flat_map (λ f. function_bytes (function_list_of f)) functions.now) }
 {
     for function in functions {
@@ -31,7 +42,6 @@ fn put_function(out: &mut Vec<u8>, function: &FunctionRow) -> Result<(), Memory>
 {
     put_u32(out, function.symbol)?;
     put_head(out, &function.head)?;
-    put_count_u16(out, function.directives.len())?;
     put_directives(out, &function.directives)?;
     put_codes(out, &function.codes)
 }
@@ -45,6 +55,13 @@ fn put_head(out: &mut Vec<u8>, head: &Head) -> Result<(), Memory>
 }
 
 fn put_directives(out: &mut Vec<u8>, directives: &[Signature]) -> Result<(), Memory>
+    ensures written { OnOk result (out.new.items ≡ out.old.items ++ directives_bytes (map signature_tree directives.now)) }
+{
+    put_count_u16(out, directives.len())?;
+    put_each_directive(out, directives)
+}
+
+fn put_each_directive(out: &mut Vec<u8>, directives: &[Signature]) -> Result<(), Memory>
     ensures written { OnOk result (out.new.items ≡ out.old.items ++ flat_map (λ s. directive_bytes (signature_tree s)) directives.now) }
 {
     for directive in directives {
@@ -77,10 +94,20 @@ fn put_codes(out: &mut Vec<u8>, codes: &Option<Codes>) -> Result<(), Memory>
 {
     match codes {
         None => put_flag(out, false),
-        Some(codes) => {
-            put_flag(out, true)?;
-            codes.scalar.put(FileKind::Object, out)?;
-            put_all(&codes.lanes, FileKind::Object, out)
-        }
+        Some(codes) => put_all_codes(out, codes),
     }
+}
+
+fn put_all_codes(out: &mut Vec<u8>, codes: &Codes) -> Result<(), Memory>
+    ensures written { OnOk result (out.new.items ≡ out.old.items ++ codes_bytes (Some (code_list_of codes.now))) }
+{
+    put_flag(out, true)?;
+    codes.scalar.put(FileKind::Object, out)?;
+    put_lanes(out, &codes.lanes)
+}
+
+fn put_lanes(out: &mut Vec<u8>, lanes: &[Code]) -> Result<(), Memory>
+    ensures written { OnOk result (out.new.items ≡ out.old.items ++ flat_map (code_bytes Object) (map listing_of lanes.now)) }
+{
+    put_all(lanes, FileKind::Object, out)
 }

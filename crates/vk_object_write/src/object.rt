@@ -1,6 +1,6 @@
 // The bytes of an object.
 
-ghost use Rattle.std.specs.Prelude.{◌≡◌, ◌++◌, IfOk, OnOk};
+ghost use Rattle.std.specs.Prelude.{◌≡◌, ◌++◌, codes, IfOk, OnOk};
 ghost use Rattle.vk_object_format.specs.Object.{object_bytes};
 ghost use Rattle.vk_object_write.specs.Lists.{object_lists};
 ghost use Rattle.vk_object_write.specs.Inner.Bytes.{header_bytes, lists_bytes};
@@ -8,7 +8,8 @@ ghost use Rattle.vk_object_write.specs.Inner.Bytes.{header_bytes, lists_bytes};
 use crate::functions::put_functions;
 use crate::symbols::{put_objects, put_symbols};
 use std::alloc::Global;
-use vk_format::fields::{put_count_u32, put_u8, put_u16};
+use vk_code_write::parts::put_target;
+use vk_format::fields::{put_u8, put_u16};
 use vk_kinds::Target;
 use vk_memory::Memory;
 use vk_object::Object;
@@ -26,11 +27,8 @@ fn put_lists(out: &mut Vec<u8>, object: &Object) -> Result<(), Memory>
     ensures written { OnOk result (out.new.items ≡ out.old.items ++ lists_bytes (object_lists object.now)) }
 {
     put_header(out, object.target)?;
-    put_count_u32(out, object.symbols.len())?;
     put_symbols(out, &object.symbols)?;
-    put_count_u32(out, object.objects.len())?;
     put_objects(out, &object.objects)?;
-    put_count_u32(out, object.functions.len())?;
     put_functions(out, &object.functions)
 }
 
@@ -38,11 +36,15 @@ fn put_lists(out: &mut Vec<u8>, object: &Object) -> Result<(), Memory>
 fn put_header(out: &mut Vec<u8>, target: Target) -> Result<(), Memory>
     ensures written { OnOk result (out.new.items ≡ out.old.items ++ header_bytes target) }
 {
-    out.extend_from_slice(b"VKOBJECT")?;
+    put_magic(out)?;
     put_u16(out, 1)?;
-    match target {
-        Target::X86 => put_u8(out, 0)?,
-        Target::Arm => put_u8(out, 1)?,
-    }
+    put_target(out, target)?;
     put_u8(out, 0)
+}
+
+fn put_magic(out: &mut Vec<u8>) -> Result<(), Memory>
+    ensures written { OnOk result (out.new.items ≡ out.old.items ++ codes "VKOBJECT") }
+{
+    out.extend_from_slice(b"VKOBJECT")?;
+    Ok(())
 }

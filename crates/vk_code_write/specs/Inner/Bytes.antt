@@ -53,6 +53,15 @@ element_bytes t w = little_bytes (bytes_of t) (w.0 % 256 ^ bytes_of t)
 abbrev pub elements_bytes : Ty → List Word → List ℕ
 elements_bytes t ws = flat_map (element_bytes t) ws
 
+-- a count first
+abbrev pub given_bytes : Ty → List Word → List ℕ
+given_bytes t ws = little_bytes 4 (length ws) ++ elements_bytes t ws
+
+-- ---- texts
+
+abbrev pub text_bytes : List ℕ → List ℕ
+text_bytes t = little_bytes 2 (length t) ++ t
+
 -- ---- calls
 
 abbrev pub shape_bytes : Shape → List ℕ

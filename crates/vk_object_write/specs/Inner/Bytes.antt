@@ -9,14 +9,14 @@ use Rattle.vk_kinds.specs.Types.{ctype_number}
 use Rattle.vk_object.specs.Objects.{CodeLists, DataLists, FunctionLists, ObjectLists}
 use Rattle.vk_code_format.specs.Fields.{bit, or_none, target_number}
 use Rattle.vk_code_write.specs.declared.written.FileKind.TheVariants.{Object}
-use Rattle.vk_code_write.specs.Inner.Bytes.{code_bytes, elements_bytes, param_bytes, type_bytes}
+use Rattle.vk_code_write.specs.Inner.Bytes.{code_bytes, given_bytes, param_bytes, text_bytes, type_bytes}
 use Rattle.vk_object_format.specs.Object.{branch_number}
 
 abbrev pub header_bytes : Target → List ℕ
 header_bytes target = codes "VKOBJECT" ++ (little_bytes 2 1 ++ (little_bytes 1 (target_number target) ++ little_bytes 1 0))
 
-abbrev pub text_bytes : List ℕ → List ℕ
-text_bytes t = little_bytes 2 (length t) ++ t
+abbrev pub symbols_bytes : List (List ℕ) → List ℕ
+symbols_bytes ts = little_bytes 4 (length ts) ++ flat_map text_bytes ts
 
 abbrev pub flags_number : Bool → Bool → ℕ
 flags_number fixed defined = bit fixed + 2 * bit defined
@@ -24,7 +24,10 @@ flags_number fixed defined = bit fixed + 2 * bit defined
 abbrev pub data_bytes : DataLists → List ℕ
 data_bytes d =
     little_bytes 4 d.symbol ++ (little_bytes 1 (type_number d.ty) ++ (little_bytes 1 (flags_number d.fixed d.defined) ++ (little_bytes 4 d.length
-    ++ (little_bytes 4 (length d.elements) ++ elements_bytes d.ty d.elements))))
+    ++ given_bytes d.ty d.elements)))
+
+abbrev pub objects_bytes : List DataLists → List ℕ
+objects_bytes ds = little_bytes 4 (length ds) ++ flat_map data_bytes ds
 
 abbrev pub head_bytes : HeadTypes → List ℕ
 head_bytes h = little_bytes 1 (ctype_number h.result) ++ (little_bytes 1 (length h.params) ++ flat_map type_bytes h.params)
@@ -32,15 +35,18 @@ head_bytes h = little_bytes 1 (ctype_number h.result) ++ (little_bytes 1 (length
 abbrev pub directive_bytes : SignatureTree → List ℕ
 directive_bytes s = little_bytes 1 (branch_number s.branch) ++ (little_bytes 2 (or_none 0 s.simdlen) ++ flat_map param_bytes s.params)
 
+abbrev pub directives_bytes : List SignatureTree → List ℕ
+directives_bytes ss = little_bytes 2 (length ss) ++ flat_map directive_bytes ss
+
 abbrev pub codes_bytes : Option CodeLists → List ℕ
 codes_bytes None = little_bytes 1 0
 codes_bytes (Some c) = little_bytes 1 1 ++ (code_bytes Object c.scalar ++ flat_map (code_bytes Object) c.lanes)
 
 abbrev pub function_bytes : FunctionLists → List ℕ
-function_bytes f =
-    little_bytes 4 f.symbol ++ (head_bytes f.head ++ (little_bytes 2 (length f.directives) ++ (flat_map directive_bytes f.directives ++ codes_bytes f.codes)))
+function_bytes f = little_bytes 4 f.symbol ++ (head_bytes f.head ++ (directives_bytes f.directives ++ codes_bytes f.codes))
+
+abbrev pub functions_bytes : List FunctionLists → List ℕ
+functions_bytes fs = little_bytes 4 (length fs) ++ flat_map function_bytes fs
 
 abbrev pub lists_bytes : ObjectLists → List ℕ
-lists_bytes o =
-    header_bytes o.target ++ (little_bytes 4 (length o.symbols) ++ (flat_map text_bytes o.symbols ++ (little_bytes 4 (length o.objects)
-    ++ (flat_map data_bytes o.objects ++ (little_bytes 4 (length o.functions) ++ flat_map function_bytes o.functions)))))
+lists_bytes o = header_bytes o.target ++ (symbols_bytes o.symbols ++ (objects_bytes o.objects ++ functions_bytes o.functions))
