@@ -17,7 +17,7 @@ pub counted : {A B T E : Type 0} (width : ℕ) (r : Result T E) (new mid old : L
     → OnOk r (new ≡ old ++ (little_bytes width (length (map see xs)) ++ flat_map bytes (map see xs)))
 counted width r new mid old bytes see xs e h =
     subst (λ ys. OnOk r (new ≡ ys))
-      (ap (λ m. m ++ flat_map (λ x. bytes (see x)) xs) e ∙ append_assoc old (little_bytes width (length xs)) (flat_map (λ x. bytes (see x)) xs) ∙ ap (λ ys. old ++ ys) (counted_seen width bytes see xs)) h
+    (ap (λ m. m ++ flat_map (λ x. bytes (see x)) xs) e ∙ append_assoc old (little_bytes width (length xs)) (flat_map (λ x. bytes (see x)) xs) ∙ ap (λ ys. old ++ ys) (counted_seen width bytes see xs)) h
 
 -- they are written without a count
 pub listed : {A B T E : Type 0} (r : Result T E) (new old : List ℕ) (bytes : B → List ℕ) (see : A → B) (xs : List A)

@@ -76,10 +76,10 @@ slot_written R (in_image codes) s =
 front_written : (R : Type 0) (place : Place) (c : Routine) → (front {R = R} place).write (routine_row c).front ≡ front_bytes (file_of place) c
 front_written R (in_object functions params) c =
     ap (λ ys. little_bytes 1 (bit c.lane_code) ++ (little_bytes 2 (or_none 65535 c.result) ++ (little_bytes 2 (length c.regs) ++ (flat_map type_bytes c.regs ++ (little_bytes 2 c.masks ++ ys)))))
-      (append-nil ((list (number 2) (slot {R = R} (in_object functions params))).write (map slot_row c.slots)) ∙ list_written 2 (slot {R = R} (in_object functions params)) slot_row (slot_bytes Object) (slot_written R (in_object functions params)) c.slots)
+    (append-nil ((list (number 2) (slot {R = R} (in_object functions params))).write (map slot_row c.slots)) ∙ list_written 2 (slot {R = R} (in_object functions params)) slot_row (slot_bytes Object) (slot_written R (in_object functions params)) c.slots)
 front_written R (in_image codes) c =
     ap (λ ys. little_bytes 1 (bit c.lane_code) ++ (little_bytes 2 (or_none 65535 c.result) ++ (little_bytes 2 c.params ++ (little_bytes 2 (length c.regs) ++ (flat_map type_bytes c.regs ++ (little_bytes 2 c.masks ++ ys))))))
-      (append-nil ((list (number 2) (slot {R = R} (in_image codes))).write (map slot_row c.slots)) ∙ list_written 2 (slot {R = R} (in_image codes)) slot_row (slot_bytes Image) (slot_written R (in_image codes)) c.slots)
+    (append-nil ((list (number 2) (slot {R = R} (in_image codes))).write (map slot_row c.slots)) ∙ list_written 2 (slot {R = R} (in_image codes)) slot_row (slot_bytes Image) (slot_written R (in_image codes)) c.slots)
 
 instrs_written : (R : Type 0) (is : List Instr) → (instructions {R = R}).write is ++ [] ≡ instrs_bytes is
 instrs_written R is = append-nil ((instructions {R = R}).write is)
@@ -96,7 +96,7 @@ body_written R place captures (numbered n) = refl
 loop_written : (R : Type 0) (place : Place) (l : SimdSite) → (loop_site {R = R} place).write (loop_row l) ≡ loop_bytes (file_of place) l
 loop_written R place l =
     ap (λ ys. little_bytes 2 (or_none 0 l.simdlen) ++ (little_bytes 2 l.low ++ (little_bytes 2 l.high ++ (little_bytes 2 (length l.captures) ++ (flat_map (little_bytes 2) l.captures
-        ++ (little_bytes 2 (length l.guards) ++ (flat_map guard_bytes l.guards ++ ys))))))) (append-nil ((body {R = R} place (length l.captures)).write (body_row l.body)) ∙ body_written R place (length l.captures) l.body)
+    ++ (little_bytes 2 (length l.guards) ++ (flat_map guard_bytes l.guards ++ ys))))))) (append-nil ((body {R = R} place (length l.captures)).write (body_row l.body)) ∙ body_written R place (length l.captures) l.body)
 
 pub code_written : (R : Type 0) (place : Place) (c : Listing) → (code {R = R} place).write (code_row c) ≡ code_bytes (file_of place) c
 code_written R place c =

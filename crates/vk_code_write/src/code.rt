@@ -8,7 +8,9 @@ ghost use Rattle.vk_code_write.specs.Inner.Bytes.{body_bytes, front_bytes, instr
 use crate::parts::{put_flag, put_i32, put_register, put_simdlen};
 use crate::written::{FileKind, Written, put_all};
 use vk_code::{Body, Code, Guard, Instr, LoopSite, Shape, Slot, SlotArg};
-use vk_format::fields::{put_count_u8, put_count_u16, put_count_u32, put_u8, put_u16, put_u32, put_u64};
+use vk_format::fields::{
+    put_count_u8, put_count_u16, put_count_u32, put_u8, put_u16, put_u32, put_u64,
+};
 use vk_memory::Memory;
 
 impl Written for Instr {

@@ -26,12 +26,13 @@ use Rattle.vk_object_format.specs.declared.rows.RawFunction.{RawFunction}
 use Rattle.vk_object_format.specs.declared.rows.RawData.{RawData}
 use Rattle.vk_object_format.specs.Values.{raw_codes, raw_data, raw_directive, raw_function, raw_object}
 use Rattle.vk_object_format.specs.Object.{branch_number, symbol, member, directive, function_codes, function, object_table, object_bytes, table_bytes}
-use Rattle.vk_object_write.specs.Inner.Bytes.{codes_bytes, data_bytes, directive_bytes, flags_number, function_bytes, head_bytes, header_bytes, lists_bytes}
+use Rattle.vk_object_write.specs.Inner.Bytes.{codes_bytes, data_bytes, directive_bytes, flags_number, function_bytes, head_bytes, header_bytes, lists_bytes, magic_bytes}
 
 data_written : (R : Type 0) (symbols : ℕ) (n : ℕ) (before : List RawData) (d : DataLists) → (member {R = R} symbols before).write (raw_data d) ≡ data_bytes d
+unfolding data_bytes
 data_written R symbols n before d =
     ap (λ ys. little_bytes 4 d.symbol ++ (little_bytes 1 (type_number d.ty) ++ (little_bytes 1 (flags_number d.fixed d.defined) ++ (little_bytes 4 d.length ++ (little_bytes 4 (length d.elements) ++ ys)))))
-      (append-nil (elements_bytes d.ty d.elements))
+    (append-nil (elements_bytes d.ty d.elements))
 
 params_written : (R : Type 0) (head : HeadTypes) (ps : List Param)
     → (items {R = R} (length head.params) (λ params. param (slice_get head.params (length params)))).write (map param_row ps) ++ [] ≡ flat_map param_bytes ps
@@ -64,8 +65,8 @@ function_written R target symbols functions before f =
     let directives = map raw_directive f.directives in
     let last = codes_by R functions (length f.head.params) (length directives) f.codes in
     ap (λ xs. little_bytes 4 f.symbol ++ (head_bytes f.head ++ (xs ++ (little_bytes 1 (bit (is_some (option_map raw_codes f.codes)))
-        ++ ((only_if (is_some (option_map raw_codes f.codes)) (function_codes {R = R} (in_object functions (length f.head.params)) (length directives))).write (option_map raw_codes f.codes) ++ [])))))
-      (many_written {R = R} 2 (λ n. directive target f.head) raw_directive directive_bytes (directive_written R target f.head) f.directives)
+    ++ ((only_if (is_some (option_map raw_codes f.codes)) (function_codes {R = R} (in_object functions (length f.head.params)) (length directives))).write (option_map raw_codes f.codes) ++ [])))))
+    (many_written {R = R} 2 (λ n. directive target f.head) raw_directive directive_bytes (directive_written R target f.head) f.directives)
     ∙ ap (λ ys. little_bytes 4 f.symbol ++ (head_bytes f.head ++ (little_bytes 2 (length f.directives) ++ (flat_map directive_bytes f.directives ++ ys)))) last
 
 symbols_written : (R : Type 0) (before ts : List (List ℕ)) → write_after (symbol {R = R}) before ts ≡ flat_map text_bytes ts
@@ -73,10 +74,11 @@ symbols_written R before [] = refl
 symbols_written R before (t ∷ ts) = ap (λ ys. text_bytes t ++ ys) (symbols_written R (before ++ t ∷ []) ts)
 
 pub object_written : (o : ObjectLists) → object_bytes o ≡ lists_bytes o
+unfolding magic_bytes
 object_written o =
     let objects = (many {R = RawObject} (number 4) (λ n. member (length o.symbols))).write (map raw_data o.objects) in
     let functions = (many {R = RawObject} (number 4) (λ n. function o.target (length o.symbols) n)).write (map raw_function o.functions) in
     ap (λ xs. header_bytes o.target ++ ((little_bytes 4 (length o.symbols) ++ xs) ++ (objects ++ (functions ++ [])))) (symbols_written RawObject [] o.symbols)
     ∙ ap (λ xs. header_bytes o.target ++ ((little_bytes 4 (length o.symbols) ++ flat_map text_bytes o.symbols) ++ (xs ++ (functions ++ [])))) (many_written {R = RawObject} 4 (λ n. member (length o.symbols)) raw_data data_bytes (data_written RawObject (length o.symbols)) o.objects)
     ∙ ap (λ ys. header_bytes o.target ++ ((little_bytes 4 (length o.symbols) ++ flat_map text_bytes o.symbols) ++ ((little_bytes 4 (length o.objects) ++ flat_map data_bytes o.objects) ++ ys)))
-      (append-nil functions ∙ many_written {R = RawObject} 4 (λ n. function o.target (length o.symbols) n) raw_function function_bytes (λ n before f. function_written RawObject o.target (length o.symbols) n before f) o.functions)
+    (append-nil functions ∙ many_written {R = RawObject} 4 (λ n. function o.target (length o.symbols) n) raw_function function_bytes (λ n before f. function_written RawObject o.target (length o.symbols) n before f) o.functions)

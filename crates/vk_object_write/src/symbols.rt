@@ -46,6 +46,7 @@ fn put_each_object(out: &mut Vec<u8>, objects: &[DataRow]) -> Result<(), Memory>
     Ok(())
 }
 
+#[tactic(auto, unfolding(crate::specs::Inner::Bytes::data_bytes))]
 fn put_data(out: &mut Vec<u8>, row: &DataRow) -> Result<(), Memory>
     ensures written { OnOk result (out.new.items ≡ out.old.items ++ data_bytes (data_list_of row.now)) }
 {

@@ -12,8 +12,12 @@ use Rattle.vk_code_write.specs.declared.written.FileKind.TheVariants.{Object}
 use Rattle.vk_code_write.specs.Inner.Bytes.{code_bytes, given_bytes, param_bytes, text_bytes, type_bytes}
 use Rattle.vk_object_format.specs.Object.{branch_number}
 
+-- the first bytes and the version
+unfoldable pub magic_bytes : List ℕ
+magic_bytes = codes "VKOBJECT" ++ little_bytes 2 1
+
 abbrev pub header_bytes : Target → List ℕ
-header_bytes target = codes "VKOBJECT" ++ (little_bytes 2 1 ++ (little_bytes 1 (target_number target) ++ little_bytes 1 0))
+header_bytes target = magic_bytes ++ (little_bytes 1 (target_number target) ++ little_bytes 1 0)
 
 abbrev pub symbols_bytes : List (List ℕ) → List ℕ
 symbols_bytes ts = little_bytes 4 (length ts) ++ flat_map text_bytes ts
@@ -21,7 +25,7 @@ symbols_bytes ts = little_bytes 4 (length ts) ++ flat_map text_bytes ts
 abbrev pub flags_number : Bool → Bool → ℕ
 flags_number fixed defined = bit fixed + 2 * bit defined
 
-abbrev pub data_bytes : DataLists → List ℕ
+unfoldable pub data_bytes : DataLists → List ℕ
 data_bytes d =
     little_bytes 4 d.symbol ++ (little_bytes 1 (type_number d.ty) ++ (little_bytes 1 (flags_number d.fixed d.defined) ++ (little_bytes 4 d.length
     ++ given_bytes d.ty d.elements)))
