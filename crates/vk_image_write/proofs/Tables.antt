@@ -28,20 +28,25 @@ array_written : (R : Type 0) (n : ℕ) (before : List RawArray) (a : ArrayLists)
 unfolding array_bytes
 array_written R n before a =
     ap (λ ys. text_bytes a.text ++ (little_bytes 1 (type_number a.ty) ++ (little_bytes 1 (bit a.fixed) ++ (little_bytes 4 a.length ++ (little_bytes 4 (length a.elements) ++ ys)))))
-      (append-nil (elements_bytes a.ty a.elements))
+    (append-nil (elements_bytes a.ty a.elements))
 
-targets_written : (R : Type 0) (entries : ℕ) (ts : List LoopTargets) → flat_map (loop_targets {R = R} entries).write ts ≡ flat_map loop_targets_bytes ts
-unfolding loop_targets_bytes
-targets_written R entries ts = refl
+regrouped : (t k c p q l : List ℕ) → ((t ++ k) ++ (c ++ (p ++ []))) ++ (q ++ (l ++ [])) ≡ t ++ (k ++ (c ++ (p ++ (q ++ l))))
+regrouped t k c p q l =
+    ap (λ ys. ((t ++ k) ++ (c ++ ys)) ++ (q ++ (l ++ []))) (append-nil p)
+    ∙ ap (λ ys. ((t ++ k) ++ (c ++ p)) ++ (q ++ ys)) (append-nil l)
+    ∙ append_assoc (t ++ k) (c ++ p) (q ++ l)
+    ∙ append_assoc t k ((c ++ p) ++ (q ++ l))
+    ∙ ap (λ ys. t ++ (k ++ ys)) (append_assoc c p (q ++ l))
 
 entry_written : (R : Type 0) (cs : List CodeRow) (entries : ℕ) (before : List RawEntry) (e : EntryLists) → (entry {R = R} cs entries before).write (raw_entry e) ≡ entry_bytes e
-unfolding entry_bytes
+unfolding entry_bytes loop_targets_bytes
 entry_written R cs entries before e =
-    let name = text_bytes e.text ++ (little_bytes 1 (kind_number e.kind) ++ (little_bytes 2 e.lanes ++ [])) in
+    let kind = little_bytes 1 (kind_number e.kind) ++ little_bytes 2 e.lanes in
     let params = flat_map (param {R = R} None).write (map param_row e.params) in
     let calls = flat_map (little_bytes 4) e.targets in
     let loops = flat_map (loop_targets {R = R} entries).write e.loops in
-    ?
+    ap (λ ys. little_bytes 2 (length e.text) ++ ys) (regrouped e.text kind (little_bytes 4 e.code) params calls loops)
+    ∙ ap (λ ys. text_bytes e.text ++ (kind ++ (little_bytes 4 e.code ++ (ys ++ (calls ++ loops))))) (flat_all (param {R = R} None) param_row param_bytes (param_written R None) e.params)
 
 pub image_written : (t : Tables) → image_bytes t ≡ lists_bytes t
 unfolding magic_bytes
@@ -52,4 +57,4 @@ image_written t =
     ap (λ xs. header ++ (xs ++ (codes ++ (entries ++ [])))) (many_written {R = RawImage} 4 (λ n. array) raw_array array_bytes (array_written RawImage) t.arrays)
     ∙ ap (λ xs. header ++ ((little_bytes 4 (length t.arrays) ++ flat_map array_bytes t.arrays) ++ (xs ++ (entries ++ [])))) (many_written {R = RawImage} 4 (λ n before. code (in_image n)) code_row (code_bytes Image) (λ n before c. code_written RawImage (in_image n) c) t.codes)
     ∙ ap (λ ys. header ++ ((little_bytes 4 (length t.arrays) ++ flat_map array_bytes t.arrays) ++ (codes_bytes t.codes ++ ys)))
-      (append-nil entries ∙ many_written {R = RawImage} 4 (entry (map code_row t.codes)) raw_entry entry_bytes (entry_written RawImage (map code_row t.codes)) t.entries)
+    (append-nil entries ∙ many_written {R = RawImage} 4 (entry (map code_row t.codes)) raw_entry entry_bytes (entry_written RawImage (map code_row t.codes)) t.entries)
