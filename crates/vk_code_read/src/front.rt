@@ -6,7 +6,7 @@ ghost use Rattle.vk_format.specs.Codec.{read_after};
 ghost use Rattle.vk_code_format.specs.declared.rows.FrontRow.{FrontRow};
 ghost use Rattle.vk_code_format.specs.Codes.{argument, slot};
 ghost use Rattle.vk_code_format.specs.Fields.{value_type};
-ghost use Rattle.vk_code_read.specs.Inner.Left.{IsWanted, Stepped, after_args, after_regs, after_slots, front_left, front_width, place_of, start_left};
+ghost use Rattle.vk_code_read.specs.Inner.Left.{IsWanted, Stepped, after_args, after_regs, after_slots, from_params, front_left, front_width, place_of, start_left};
 ghost use Rattle.vk_code_read.specs.declared.front.FrontStage.TheVariants as FrontStage;
 
 use crate::fields::{flag_of, has_value, register_of, shape_kind_of, value_type_of};
@@ -132,6 +132,7 @@ impl FrontFeed {
     }
 
     // So many calls are left.
+    #[tactic(auto, using(crate::proofs::Left::start_reads))]
     fn slots<R>(&mut self, left: u16)
         ensures { (at : ℕ) (next : FrontRow → ℕ → Format R) → front_left self.new at next
             ≡ read_after (λ before. slot (place_of self.old.place)) left self.old.front.slots at (after_slots self.old.front next) }
@@ -184,6 +185,101 @@ impl FrontFeed {
                 self.slot.function = u32::from(count);
                 self.stage = FrontStage::Always(left, count);
             }
+        }
+        Ok(())
+    }
+
+    // The number of parameters comes next, where it is a field.
+    fn params<R>(&mut self)
+        ensures { (at : ℕ) (next : FrontRow → ℕ → Format R) → front_left self.new at next
+            ≡ from_params (place_of self.old.place) self.old.front at next }
+    {
+        match self.place {
+            CodePlace::Object { functions: _, params } => {
+                self.front.params = params;
+                self.stage = FrontStage::RegCount;
+            }
+            CodePlace::Image { codes: _ } => self.stage = FrontStage::Params,
+        }
+    }
+
+    /// Takes the next field, which stands at this place.
+    pub fn step<R>(&mut self, at: u64, field: &[u8]) -> Result<(), ObjectFail>
+        requires width { length field.now ≡ front_width self.old.place self.old.stage }
+        requires wanted { 0 < front_width self.old.place self.old.stage }
+        ensures { (next : FrontRow → ℕ → Format R) → Stepped (front_left self.old at next) field.now result
+            (front_left self.new (at + front_width self.old.place self.old.stage) next) }
+    {
+        match self.stage {
+            FrontStage::Lane => match flag_of(u8_of(field)) {
+                None => return Err(refused(at, ObjectRule::O7)),
+                Some(lane_code) => {
+                    self.front.lane_code = lane_code;
+                    self.stage = FrontStage::Result;
+                }
+            },
+            FrontStage::Result => {
+                self.front.result = register_of(u16_of(field));
+                self.params::<R>();
+            }
+            FrontStage::Params => {
+                self.front.params = u32::from(u16_of(field));
+                self.stage = FrontStage::RegCount;
+            }
+            FrontStage::RegCount => {
+                self.front.regs = Items::new(self.alloc);
+                self.regs::<R>(u16_of(field));
+            }
+            FrontStage::Reg(left) => match value_type_of(u8_of(field)) {
+                None => return Err(refused(at, ObjectRule::O7)),
+                Some(ctype) => {
+                    self.front.regs.push(ctype)?;
+                    self.regs::<R>(left);
+                }
+            },
+            FrontStage::Masks => {
+                self.front.masks = u16_of(field);
+                self.stage = FrontStage::SlotCount;
+            }
+            FrontStage::SlotCount => {
+                self.front.slots = Items::new(self.alloc);
+                self.slots::<R>(u16_of(field));
+            }
+            FrontStage::SlotStart(left) => match self.start::<R>(at, left, field) {
+                Err(fail) => return Err(fail),
+                Ok(()) => {}
+            },
+            FrontStage::ArgCount(left) => {
+                self.stage = FrontStage::Always(left, u8_of(field));
+            }
+            FrontStage::Always(left, args) => match flag_of(u8_of(field)) {
+                None => return Err(refused(at, ObjectRule::O7)),
+                Some(always) => {
+                    self.slot.always = always;
+                    self.stage = FrontStage::SlotResult(left, args);
+                }
+            },
+            FrontStage::SlotResult(left, args) => {
+                self.slot.result = register_of(u16_of(field));
+                self.slot.args = Items::new(self.alloc);
+                self.args::<R>(left, args)?;
+            }
+            FrontStage::ArgReg(left, args) => {
+                self.stage = FrontStage::ArgKind(left, args, u16_of(field));
+            }
+            FrontStage::ArgKind(left, args, reg) => match shape_kind_of(u8_of(field)) {
+                None => return Err(refused(at, ObjectRule::O7)),
+                Some(kind) => self.stage = FrontStage::ArgValue(left, args, reg, kind),
+            },
+            FrontStage::ArgValue(left, args, reg, kind) => {
+                let value = u32_of(field);
+                if !has_value(kind, value) {
+                    return Err(refused(at, ObjectRule::O7));
+                }
+                self.slot.args.push(ArgRow { reg, kind, value })?;
+                self.args::<R>(left, args)?;
+            }
+            FrontStage::Done => {}
         }
         Ok(())
     }
