@@ -1,13 +1,13 @@
 -- What is read of code was written, and what is written is read.
-use Rattle.std.proofs.Common.{◌≡◌, ℕ, ◌+◌, ◌-◌, ◌<◌, ◌≤◌, zero, suc, subst, List, [], ◌∷◌, ◌++◌, length, take, drop, refl, sym, ap, ◌∙◌, arith}
+use Rattle.std.proofs.Common.{◌≡◌, ℕ, ◌+◌, ◌<◌, ◌≤◌, zero, suc, subst, List, [], ◌∷◌, ◌++◌, length, take, drop, refl, sym, ap, ◌∙◌, arith}
 use Rattle.std.specs.List.{AllByRecursion}
 use Rattle.std.proofs.lemmas.List.{take-append-drop, take_all, length-take, length-drop, drop-drop}
 use Rattle.byteorder.specs.Numbers.{little_from-take}
 use Rattle.vk_format.specs.Bytes.{IsBytes}
 use Rattle.vk_format.proofs.Bytes.{IsBytes-drop, IsBytes-take, bytes_again}
 use Rattle.byteorder.specs.Endian.{little_bytes, little_number}
-use Rattle.vk_format.specs.declared.rules.ObjectRule.TheVariants.{O7, O8}
-use Rattle.vk_format.specs.Codec.{Codec, number, block, field, judged, seen, written_by, repeated, list, given, exactly_number, ◌▹◌}
+use Rattle.vk_format.specs.declared.rules.ObjectRule.TheVariants.{O7}
+use Rattle.vk_format.specs.Codec.{number, block, judged, repeated, list, exactly_number}
 use Rattle.vk_format.proofs.Inverse.{IsCodec, number_law, block_law, field_law, judged_law, seen_law, written_by_law, repeated_law, list_law, given_law, skip_law}
 use Rattle.vk_code_format.specs.declared.rows.BodyRow.{BodyRow}
 use Rattle.vk_code_format.specs.declared.rows.BodyRow.TheVariants.{Inline, Number}

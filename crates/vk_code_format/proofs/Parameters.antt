@@ -1,8 +1,8 @@
 -- What is read of a parameter was written, and what is written is read.
-use Rattle.std.proofs.Common.{◌≡◌, refl, ap, Option}
+use Rattle.std.proofs.Common.{refl, ap, Option}
 use Rattle.vk_kinds.specs.declared.heads.CType.{CType}
 use Rattle.vk_format.specs.declared.rules.ObjectRule.TheVariants.{O7}
-use Rattle.vk_format.specs.Codec.{number, field, given, judged}
+use Rattle.vk_format.specs.Codec.{number, judged}
 use Rattle.vk_format.proofs.Inverse.{IsCodec, number_law, field_law, judged_law, given_law}
 use Rattle.vk_code_format.specs.Fields.{coded, optional}
 use Rattle.vk_code_format.specs.Parameters.{align_fits, kind_fits, kind_number, param, param_kinds, value_fits}

@@ -1,6 +1,5 @@
 -- What is left of calls.
 use Rattle.std.proofs.Common.{◌≡◌, ℕ, suc, refl}
-use Rattle.vk_format.specs.Format.{Format}
 use Rattle.vk_format.specs.Codec.{read_after}
 use Rattle.vk_code_format.specs.declared.rows.FrontRow.{FrontRow}
 use Rattle.vk_code_format.specs.declared.rows.SlotRow.{SlotRow}

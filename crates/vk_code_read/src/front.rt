@@ -172,7 +172,10 @@ impl FrontFeed {
             (front_left self.new (at + front_width self.old.place (FrontStage.SlotStart left)) next) }
     {
         match self.place {
-            CodePlace::Object { functions, params: _ } => {
+            CodePlace::Object {
+                functions,
+                params: _,
+            } => {
                 let function = u32_of(field);
                 if functions <= function {
                     return Err(refused(at, ObjectRule::O8));
@@ -195,7 +198,10 @@ impl FrontFeed {
             ≡ from_params (place_of self.old.place) self.old.front at next }
     {
         match self.place {
-            CodePlace::Object { functions: _, params } => {
+            CodePlace::Object {
+                functions: _,
+                params,
+            } => {
                 self.front.params = params;
                 self.stage = FrontStage::RegCount;
             }

@@ -1,9 +1,8 @@
 -- What the code writes is what the tables say.
-use Rattle.std.proofs.Common.{◌≡◌, ℕ, Option, ◌+◌, List, [], ◌∷◌, ◌++◌, flat_map, length, map, refl, sym, ap, ◌∙◌, append-nil}
+use Rattle.std.proofs.Common.{◌≡◌, ℕ, Option, List, [], ◌++◌, flat_map, length, map, refl, ap, ◌∙◌, append-nil}
 use Rattle.std.proofs.lemmas.List.{length-map}
 use Rattle.vk_kinds.specs.declared.kinds.Kind.{Kind}
 use Rattle.vk_kinds.specs.declared.kinds.Kind.TheVariants as kinds
-use Rattle.vk_kinds.specs.declared.kinds.Step.{Step}
 use Rattle.vk_kinds.specs.declared.kinds.Step.TheVariants as steps
 use Rattle.vk_kinds.specs.declared.kinds.Param.{Param}
 use Rattle.vk_kinds.specs.declared.heads.CType.{CType}
@@ -13,10 +12,10 @@ use Rattle.byteorder.specs.Endian.{little_bytes}
 use Rattle.vk_code.specs.declared.instruction.Instr.{Instr}
 use Rattle.vk_code.specs.declared.code.SlotArg.{SlotArg}
 use Rattle.vk_code.specs.Listing.{CallSite, Listing, LoopBody, own, numbered, Routine, SimdSite}
-use Rattle.vk_format.specs.Codec.{Codec, number, list}
+use Rattle.vk_format.specs.Codec.{number, list}
 use Rattle.vk_format.proofs.Inverse.{flat_all, list_written}
-use Rattle.vk_code_format.specs.Codes.{Place, in_object, in_image, argument, slot, front, routine, body, loop_site, guard, instruction, instructions, code}
-use Rattle.vk_code_format.specs.Fields.{bit, or_none, value_type}
+use Rattle.vk_code_format.specs.Codes.{Place, in_object, in_image, argument, slot, front, routine, body, loop_site, instructions, code}
+use Rattle.vk_code_format.specs.Fields.{bit, or_none}
 use Rattle.vk_code_format.specs.Parameters.{kind_row, param, param_row}
 use Rattle.vk_code_format.specs.Values.{arg_row, slot_row, routine_row, body_row, loop_row, code_row}
 use Rattle.vk_code_write.specs.declared.written.FileKind.{FileKind}

@@ -225,7 +225,9 @@ written_by_law bytes c law agree = record {
         value_fits = (t.value_fits, same);
         parts = rw same t.parts;
         rest_fits = t.rest_fits;
-        onward = rw same t.onward } }
+        onward = rw same t.onward;
+      };
+}
 
 -- ---- lists
 
@@ -335,7 +337,7 @@ repeated_law n c law = written_by_law (λ xs. flat_map c.write xs) (items n (λ 
 pub list_law : {R A : Type 0} (count : Codec R ℕ) (c : Codec R A) → IsCodec count → IsCodec c → IsCodec (list count c)
 list_law {A = A} count c first law =
     seen_law (λ (x : ℕ × List A). x.1) (λ xs. (length xs, xs)) (count ▸ λ n. repeated n c) (then_law count (λ n. repeated n c) first (λ n. repeated_law n c law))
-      (λ x fits. ap (λ (k : ℕ). (k, x.1)) fits.1.0.0)
+    (λ x fits. ap (λ (k : ℕ). (k, x.1)) fits.1.0.0)
 
 pub text_law : {R : Type 0} → IsCodec (text {R = R})
 text_law =

@@ -86,7 +86,8 @@ abbrev pub written_by : {R A : Type 0} → (A → List ℕ) → Codec R A → Co
 written_by bytes c = record {
   write = bytes;
   read = λ at next. c.read at next;
-  fits = λ a. c.fits a × (bytes a ≡ c.write a) }
+  fits = λ a. c.fits a × (bytes a ≡ c.write a);
+}
 
 -- ---- lists
 

@@ -1,17 +1,13 @@
 -- What the code writes is what the table says.
-use Rattle.std.proofs.Common.{◌≡◌, ℕ, Option, Some, None, List, [], ◌∷◌, ◌++◌, flat_map, length, map, refl, sym, ap, ◌∙◌, append-nil, append_assoc, slice_get}
-use Rattle.std.specs.Option.{option_map}
+use Rattle.std.proofs.Common.{◌≡◌, ℕ, None, List, [], ◌++◌, flat_map, length, map, ap, ◌∙◌, append-nil, append_assoc}
 use Rattle.byteorder.specs.Endian.{little_bytes}
 use Rattle.vk_types.specs.Formats.{type_number}
-use Rattle.vk_kinds.specs.declared.kinds.Param.{Param}
-use Rattle.vk_code.specs.Listing.{Listing}
-use Rattle.vk_object.specs.declared.tables.LoopTargets.{LoopTargets}
 use Rattle.vk_object.specs.Tables.{ArrayLists, EntryLists, Tables}
-use Rattle.vk_format.specs.Codec.{Codec, number, many, repeated}
+use Rattle.vk_format.specs.Codec.{number, many}
 use Rattle.vk_format.proofs.Inverse.{flat_all, many_written}
 use Rattle.vk_code_format.specs.declared.rows.CodeRow.{CodeRow}
 use Rattle.vk_code_format.specs.Codes.{in_image, code}
-use Rattle.vk_code_format.specs.Fields.{below, bit}
+use Rattle.vk_code_format.specs.Fields.{bit}
 use Rattle.vk_code_format.specs.Parameters.{param, param_row}
 use Rattle.vk_code_format.specs.Values.{code_row}
 use Rattle.vk_code_write.specs.declared.written.FileKind.TheVariants.{Image}
@@ -20,7 +16,7 @@ use Rattle.vk_code_write.proofs.Tables.{code_written, param_written}
 use Rattle.vk_image_format.specs.declared.rows.RawArray.{RawArray}
 use Rattle.vk_image_format.specs.declared.rows.RawEntry.{RawEntry}
 use Rattle.vk_image_format.specs.declared.rows.RawImage.{RawImage}
-use Rattle.vk_image_format.specs.Values.{main_number, raw_array, raw_entry, raw_image}
+use Rattle.vk_image_format.specs.Values.{main_number, raw_array, raw_entry}
 use Rattle.vk_image_format.specs.Image.{array, entry, image_bytes, kind_number, loop_targets}
 use Rattle.vk_image_write.specs.Inner.Bytes.{array_bytes, codes_bytes, entry_bytes, header_bytes, lists_bytes, loop_targets_bytes, magic_bytes}
 

@@ -78,7 +78,8 @@ gain = record {
   target = X86;
   symbols = codes "gain" ∷ [];
   objects = (record { symbol = 0; ty = I32; fixed = true; defined = false; length = 8; elements = [] }) ∷ [];
-  functions = [] }
+  functions = [];
+}
 
 gain_44 : length (object_bytes gain) ≡ 44
 gain_44 = refl

@@ -1,10 +1,8 @@
 -- What the code writes is what the table says.
-use Rattle.std.proofs.Common.{◌≡◌, ℕ, Option, Some, None, List, [], ◌∷◌, ◌++◌, flat_map, length, map, refl, sym, ap, ◌∙◌, append-nil, slice_get}
+use Rattle.std.proofs.Common.{◌≡◌, ℕ, Option, Some, None, List, [], ◌∷◌, ◌++◌, flat_map, length, map, refl, ap, ◌∙◌, append-nil, slice_get}
 use Rattle.std.specs.Prelude.{is_some}
 use Rattle.std.specs.Option.{option_map}
-use Rattle.std.proofs.lemmas.List.{length-map}
 use Rattle.byteorder.specs.Endian.{little_bytes}
-use Rattle.vk_kinds.specs.declared.kinds.Branch.{Branch}
 use Rattle.vk_types.specs.Formats.{type_number}
 use Rattle.vk_kinds.specs.declared.kinds.Param.{Param}
 use Rattle.vk_code.specs.Listing.{Listing}
@@ -13,9 +11,9 @@ use Rattle.vk_object_format.specs.declared.rows.RawObject.{RawObject}
 use Rattle.vk_kinds.specs.declared.kinds.Target.{Target}
 use Rattle.vk_kinds.specs.Sizes.{HeadTypes, SignatureTree}
 use Rattle.vk_object.specs.Objects.{CodeLists, DataLists, FunctionLists, ObjectLists}
-use Rattle.vk_format.specs.Codec.{Codec, number, items, many, only_if, write_after}
+use Rattle.vk_format.specs.Codec.{number, items, many, only_if, write_after}
 use Rattle.vk_format.proofs.Inverse.{flat_all, many_written, write_all}
-use Rattle.vk_code_format.specs.Codes.{Place, in_object, code}
+use Rattle.vk_code_format.specs.Codes.{in_object, code}
 use Rattle.vk_code_format.specs.Parameters.{param, param_row}
 use Rattle.vk_code_format.specs.Values.{code_row}
 use Rattle.vk_code_write.specs.declared.written.FileKind.TheVariants.{Object}
@@ -24,8 +22,8 @@ use Rattle.vk_code_write.proofs.Tables.{code_written, param_written}
 use Rattle.vk_object_format.specs.declared.rows.RawDirective.{RawDirective}
 use Rattle.vk_object_format.specs.declared.rows.RawFunction.{RawFunction}
 use Rattle.vk_object_format.specs.declared.rows.RawData.{RawData}
-use Rattle.vk_object_format.specs.Values.{raw_codes, raw_data, raw_directive, raw_function, raw_object}
-use Rattle.vk_object_format.specs.Object.{branch_number, symbol, member, directive, function_codes, function, object_table, object_bytes, table_bytes}
+use Rattle.vk_object_format.specs.Values.{raw_codes, raw_data, raw_directive, raw_function}
+use Rattle.vk_object_format.specs.Object.{branch_number, symbol, member, directive, function_codes, function, object_bytes}
 use Rattle.vk_object_write.specs.Inner.Bytes.{codes_bytes, data_bytes, directive_bytes, flags_number, function_bytes, head_bytes, header_bytes, lists_bytes, magic_bytes}
 
 data_written : (R : Type 0) (symbols : ℕ) (n : ℕ) (before : List RawData) (d : DataLists) → (member {R = R} symbols before).write (raw_data d) ≡ data_bytes d

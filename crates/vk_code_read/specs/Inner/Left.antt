@@ -1,5 +1,5 @@
 -- What is still wanted of code up to its calls, by what has come.
-use Rattle.std.specs.Prelude.{◌≡◌, ℕ, ◌+◌, List, [], ◌∷◌, ◌++◌, length, Result, Ok, Err}
+use Rattle.std.specs.Prelude.{◌≡◌, ℕ, List, [], ◌∷◌, ◌++◌, Result, Ok, Err}
 use Rattle.vk_kinds.specs.declared.heads.CType.{CType}
 use Rattle.vk_format.specs.declared.rules.ObjectFail.{ObjectFail}
 use Rattle.vk_format.specs.declared.rules.ObjectFail.TheVariants as fails

@@ -1,5 +1,5 @@
 -- The bytes of each part, as the code writes them.
-use Rattle.std.specs.Prelude.{ℕ, ◌++◌, List, [], ◌∷◌, codes, length}
+use Rattle.std.specs.Prelude.{ℕ, ◌++◌, List, codes, length}
 use Rattle.std.specs.List.{flat_map}
 use Rattle.byteorder.specs.Endian.{little_bytes}
 use Rattle.vk_types.specs.Formats.{type_number}
