@@ -1,6 +1,7 @@
 //! Reads code field by field, for objects and images.
 #![tactic(auto)]
 
+pub mod code;
 pub mod fields;
 pub mod front;
 

@@ -1,0 +1,137 @@
+// Code field by field.
+
+ghost use Rattle.std.specs.Prelude.{◌≡◌, ◌<◌, ℕ, ◌+◌, ◌∷◌, [], ◌++◌, List, length};
+ghost use Rattle.byteorder.specs.Endian.{little_number};
+ghost use Rattle.vk_format.specs.Format.{Format};
+ghost use Rattle.vk_format.specs.Codec.{number, read_after};
+ghost use Rattle.vk_code_format.specs.declared.rows.CodeRow.{CodeRow};
+ghost use Rattle.vk_code_format.specs.Codes.{guard, instr_of, instruction, loop_site};
+ghost use Rattle.vk_code_read.specs.Inner.Left.{place_of};
+ghost use Rattle.vk_code_read.specs.Inner.LeftCode.{after_captures, after_guards, after_instrs, after_loop, after_loops, code_left, code_width};
+
+use crate::front::{CodePlace, FrontFeed};
+use std::alloc::Global;
+use vk_code::{Guard, Instr};
+use vk_code_format::{BodyRow, LoopRow};
+use vk_format::Items;
+use vk_format::fields::{u8_of, u16_of, u64_of};
+
+/// Which field comes next. Counts of what is left are without the item that the field belongs to.
+#[derive(Clone, Copy)]
+pub enum CodeStage {
+    Front,
+    LoopCount,
+    Simdlen(u16),
+    Low(u16),
+    High(u16),
+    CaptureCount(u16),
+    Capture(u16, u16),
+    GuardCount(u16),
+    GuardFirst(u16, u16),
+    GuardSecond(u16, u16, u16),
+    BodyNumber(u16),
+    BodyFront(u16),
+    BodyLoops(u16),
+    BodyInstrCount(u16),
+    BodyInstr(u16, u32),
+    InstrCount,
+    Instr(u32),
+    Done,
+}
+
+/// Code of which some fields have come.
+#[derive(Drop)]
+pub struct CodeFeed {
+    pub(crate) alloc: Global,
+    pub place: CodePlace,
+    pub stage: CodeStage,
+    /// The code up to its calls.
+    pub front: FrontFeed,
+    /// The simd loops so far, and the one that comes.
+    pub loops: Items<LoopRow>,
+    pub site: LoopRow,
+    /// The body that comes, up to its calls.
+    pub body: FrontFeed,
+    /// The instructions of the body that comes, or of the code.
+    pub instrs: Items<Instr>,
+}
+
+/// An instruction of 16 bytes.
+pub fn instr_of(field: &[u8]) -> Instr
+    requires width { length field.now ≡ 16 }
+    ensures { result ≡ instr_of field.now }
+{
+    Instr {
+        op: u8_of(&field[..1]),
+        ty: u8_of(&field[1..2]),
+        m: u16_of(&field[2..4]),
+        d: u16_of(&field[4..6]),
+        a: u16_of(&field[6..8]),
+        imm: u64_of(&field[8..16]),
+    }
+}
+
+impl CodeFeed {
+    /// How many bytes the next field has.
+    pub fn width(&self) -> usize
+        ensures { result ≡ code_width self.now }
+    {
+        match self.stage {
+            CodeStage::Front => self.front.width(),
+            CodeStage::LoopCount => 2,
+            CodeStage::Simdlen(_) => 2,
+            CodeStage::Low(_) => 2,
+            CodeStage::High(_) => 2,
+            CodeStage::CaptureCount(_) => 2,
+            CodeStage::Capture(_, _) => 2,
+            CodeStage::GuardCount(_) => 2,
+            CodeStage::GuardFirst(_, _) => 2,
+            CodeStage::GuardSecond(_, _, _) => 2,
+            CodeStage::BodyNumber(_) => 4,
+            CodeStage::BodyFront(_) => self.body.width(),
+            CodeStage::BodyLoops(_) => 2,
+            CodeStage::BodyInstrCount(_) => 4,
+            CodeStage::BodyInstr(_, _) => 16,
+            CodeStage::InstrCount => 4,
+            CodeStage::Instr(_) => 16,
+            CodeStage::Done => 0,
+        }
+    }
+
+    // So many instructions of the code are left.
+    fn instrs<R>(&mut self, left: u32)
+        ensures { (at : ℕ) (next : CodeRow → ℕ → Format R) → code_left self.new at next
+            ≡ read_after (λ before. instruction) left self.old.instrs at (after_instrs self.old.front.front self.old.loops next) }
+    {
+        self.stage = if left == 0 {
+            CodeStage::Done
+        } else {
+            CodeStage::Instr(left - 1)
+        };
+    }
+
+    // So many loops are left.
+    fn loops<R>(&mut self, left: u16)
+        ensures { (at : ℕ) (next : CodeRow → ℕ → Format R) → code_left self.new at next
+            ≡ read_after (λ before. loop_site (place_of self.old.place)) left self.old.loops at (after_loops self.old.front.front next) }
+    {
+        self.stage = if left == 0 {
+            CodeStage::InstrCount
+        } else {
+            CodeStage::Simdlen(left - 1)
+        };
+    }
+
+    // So many captures of the loop are left, and so many loops after it.
+    fn captures<R>(&mut self, left: u16, more: u16)
+        ensures { (at : ℕ) (next : CodeRow → ℕ → Format R) → code_left self.new at next
+            ≡ read_after (λ before. number 2) more self.old.site.captures at
+                (after_captures (place_of self.old.place) self.old.site (after_loop (place_of self.old.place) self.old.front.front self.old.loops left next)) }
+    {
+        self.stage = if more == 0 {
+            CodeStage::GuardCount(left)
+        } else {
+            CodeStage::Capture(left, more - 1)
+        };
+    }
+}
