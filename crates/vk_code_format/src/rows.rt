@@ -50,7 +50,7 @@ pub struct FrontRow {
     /// The register of the result.
     pub result: Option<u16>,
     /// How many registers are parameters.
-    pub params: u32,
+    pub params: usize,
     /// The type of each register.
     pub regs: Items<CType>,
     pub masks: u16,

@@ -6,14 +6,16 @@ ghost use Rattle.vk_format.specs.Format.{Format};
 ghost use Rattle.vk_format.specs.Codec.{number, read_after};
 ghost use Rattle.vk_code_format.specs.declared.rows.CodeRow.{CodeRow};
 ghost use Rattle.vk_code_format.specs.Codes.{guard, instr_of, instruction, loop_site};
-ghost use Rattle.vk_code_read.specs.Inner.Left.{place_of};
-ghost use Rattle.vk_code_read.specs.Inner.LeftCode.{after_captures, after_guards, after_instrs, after_loop, after_loops, code_left, code_width};
+ghost use Rattle.vk_code_read.specs.Inner.Left.{IsWanted, Stepped, place_of};
+ghost use Rattle.vk_code_read.specs.declared.code.CodeStage.TheVariants as CodeStage;
+ghost use Rattle.vk_code_read.specs.Inner.LeftCode.{after_body_instrs, body_next, from_body, after_captures, after_guards, after_instrs, after_loop, after_loops, code_left, code_width};
 
-use crate::front::{CodePlace, FrontFeed};
+use crate::front::{CodePlace, FrontFeed, FrontStage};
 use std::alloc::Global;
+use std::mem;
 use vk_code::{Guard, Instr};
-use vk_code_format::{BodyRow, LoopRow};
-use vk_format::Items;
+use vk_code_format::{BodyRow, LoopRow, RoutineRow};
+use vk_format::{Items, ObjectFail};
 use vk_format::fields::{u8_of, u16_of, u64_of};
 
 /// Which field comes next. Counts of what is left are without the item that the field belongs to.
@@ -133,5 +135,102 @@ impl CodeFeed {
         } else {
             CodeStage::Capture(left, more - 1)
         };
+    }
+
+    // So many guards of the loop are left, and so many loops after it.
+    fn guards<R>(&mut self, left: u16, more: u16)
+        ensures { (at : ℕ) (next : CodeRow → ℕ → Format R) → code_left self.new at next
+            ≡ read_after (λ before. guard) more self.old.site.guards at
+                (after_guards (place_of self.old.place) self.old.site (after_loop (place_of self.old.place) self.old.front.front self.old.loops left next)) }
+    {
+        if more == 0 {
+            self.begin_body::<R>(left);
+        } else {
+            self.stage = CodeStage::GuardFirst(left, more - 1);
+        }
+    }
+
+    // The body of the loop comes next, and so many loops after it.
+    fn begin_body<R>(&mut self, left: u16)
+        ensures { (at : ℕ) (next : CodeRow → ℕ → Format R) → code_left self.new at next
+            ≡ from_body (place_of self.old.place) self.old.site at (after_loop (place_of self.old.place) self.old.front.front self.old.loops left next) }
+    {
+        match self.place {
+            CodePlace::Object { functions, params: _ } => {
+                let captures = self.site.captures.as_slice().len();
+                let params = 1 + captures;
+                self.body = FrontFeed::new(self.alloc, CodePlace::Object { functions, params });
+                self.stage = CodeStage::BodyFront(left);
+            }
+            CodePlace::Image { codes: _ } => self.stage = CodeStage::BodyNumber(left),
+        }
+    }
+
+    // The body of the loop is whole, and so many loops come after it.
+    fn end_body<R>(&mut self, left: u16, body: BodyRow) -> Result<(), ObjectFail>
+        ensures { (at : ℕ) (next : CodeRow → ℕ → Format R) → IsWanted result (code_left self.new at next) (body_next self.old left next body at) }
+    {
+        let next = LoopRow {
+            simdlen: None,
+            low: 0,
+            high: 0,
+            captures: Items::new(self.alloc),
+            guards: Items::new(self.alloc),
+            body: BodyRow::Number(0),
+        };
+        let mut site = mem::replace(&mut self.site, next);
+        site.body = body;
+        self.loops.push(site)?;
+        self.loops::<R>(left);
+        Ok(())
+    }
+
+    // So many instructions of the body are left, and so many loops after it.
+    fn body_instrs<R>(&mut self, left: u16, more: u32) -> Result<(), ObjectFail>
+        ensures { (at : ℕ) (next : CodeRow → ℕ → Format R) → IsWanted result (code_left self.new at next)
+            (read_after (λ before. instruction) more self.old.instrs at (after_body_instrs self.old.body.front (body_next self.old left next))) }
+    {
+        if more != 0 {
+            self.stage = CodeStage::BodyInstr(left, more - 1);
+            return Ok(());
+        }
+        let none = FrontFeed::new(self.alloc, self.place);
+        let front = mem::replace(&mut self.body, none).front;
+        let instrs = mem::replace(&mut self.instrs, Items::new(self.alloc));
+        self.end_body::<R>(left, BodyRow::Inline(RoutineRow { front, instrs }))
+    }
+
+    // The code up to its calls goes on with a field.
+    fn front<R>(&mut self, at: u64, field: &[u8]) -> Result<(), ObjectFail>
+        requires stage { self.old.stage ≡ CodeStage.Front }
+        requires width { length field.now ≡ code_width self.old }
+        requires wanted { 0 < code_width self.old }
+        ensures { (next : CodeRow → ℕ → Format R) → Stepped (code_left self.old at next) field.now result (code_left self.new (at + code_width self.old) next) }
+    {
+        match self.front.step::<R>(at, field) {
+            Err(fail) => return Err(fail),
+            Ok(()) => {}
+        }
+        if let FrontStage::Done = self.front.stage {
+            self.stage = CodeStage::LoopCount;
+        }
+        Ok(())
+    }
+
+    // The body of the loop goes on with a field, up to its calls.
+    fn body_front<R>(&mut self, left: u16, at: u64, field: &[u8]) -> Result<(), ObjectFail>
+        requires stage { self.old.stage ≡ CodeStage.BodyFront left }
+        requires width { length field.now ≡ code_width self.old }
+        requires wanted { 0 < code_width self.old }
+        ensures { (next : CodeRow → ℕ → Format R) → Stepped (code_left self.old at next) field.now result (code_left self.new (at + code_width self.old) next) }
+    {
+        match self.body.step::<R>(at, field) {
+            Err(fail) => return Err(fail),
+            Ok(()) => {}
+        }
+        if let FrontStage::Done = self.body.stage {
+            self.stage = CodeStage::BodyLoops(left);
+        }
+        Ok(())
     }
 }

@@ -20,7 +20,7 @@ use vk_format::{Items, ObjectFail, ObjectFault, ObjectRule};
 #[derive(Clone, Copy, PartialEq, Eq, Debug)]
 pub enum CodePlace {
     /// In an object of so many functions, for a function of so many parameters.
-    Object { functions: u32, params: u32 },
+    Object { functions: u32, params: usize },
     /// In an image of so many codes.
     Image { codes: u32 },
 }
@@ -229,7 +229,7 @@ impl FrontFeed {
                 self.params::<R>();
             }
             FrontStage::Params => {
-                self.front.params = u32::from(u16_of(field));
+                self.front.params = usize::from(u16_of(field));
                 self.stage = FrontStage::RegCount;
             }
             FrontStage::RegCount => {
