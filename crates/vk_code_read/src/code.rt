@@ -8,15 +8,16 @@ ghost use Rattle.vk_code_format.specs.declared.rows.CodeRow.{CodeRow};
 ghost use Rattle.vk_code_format.specs.Codes.{guard, instr_of, instruction, loop_site};
 ghost use Rattle.vk_code_read.specs.Inner.Left.{IsWanted, Stepped, place_of};
 ghost use Rattle.vk_code_read.specs.declared.code.CodeStage.TheVariants as CodeStage;
-ghost use Rattle.vk_code_read.specs.Inner.LeftCode.{after_body_instrs, body_next, from_body, after_captures, after_guards, after_instrs, after_loop, after_loops, code_left, code_width};
+ghost use Rattle.vk_code_read.specs.Inner.LeftCode.{after_body_instrs, body_next, codes_in, from_number, from_body, after_captures, after_guards, after_instrs, after_loop, after_loops, code_left, code_width};
 
-use crate::front::{CodePlace, FrontFeed, FrontStage};
+use crate::fields::{is_good_simdlen, simdlen_of};
+use crate::front::{CodePlace, FrontFeed, FrontStage, refused};
 use std::alloc::Global;
 use std::mem;
 use vk_code::{Guard, Instr};
 use vk_code_format::{BodyRow, LoopRow, RoutineRow};
-use vk_format::{Items, ObjectFail};
-use vk_format::fields::{u8_of, u16_of, u64_of};
+use vk_format::{Items, ObjectFail, ObjectRule};
+use vk_format::fields::{u8_of, u16_of, u32_of, u64_of};
 
 /// Which field comes next. Counts of what is left are without the item that the field belongs to.
 #[derive(Clone, Copy)]
@@ -230,6 +231,114 @@ impl CodeFeed {
         }
         if let FrontStage::Done = self.body.stage {
             self.stage = CodeStage::BodyLoops(left);
+        }
+        Ok(())
+    }
+
+    // The number of the body's code, with so many loops after it.
+    fn number<R>(&mut self, left: u16, at: u64, field: &[u8]) -> Result<(), ObjectFail>
+        requires width { length field.now ≡ 4 }
+        ensures { (next : CodeRow → ℕ → Format R) → Stepped (from_number (codes_in (place_of self.old.place)) at (body_next self.old left next)) field.now result (code_left self.new (at + 4) next) }
+    {
+        let number = u32_of(field);
+        if self.codes() <= number {
+            return Err(refused(at, ObjectRule::O8));
+        }
+        self.end_body::<R>(left, BodyRow::Number(number))
+    }
+
+    // How many codes a number may name.
+    fn codes(&self) -> u32
+        ensures { result ≡ codes_in (place_of self.now.place) }
+    {
+        match self.place {
+            CodePlace::Object { .. } => 0,
+            CodePlace::Image { codes } => codes,
+        }
+    }
+
+    /// Takes the next field, which stands at this place.
+    pub fn step<R>(&mut self, at: u64, field: &[u8]) -> Result<(), ObjectFail>
+        requires width { length field.now ≡ code_width self.old }
+        requires wanted { 0 < code_width self.old }
+        ensures { (next : CodeRow → ℕ → Format R) → Stepped (code_left self.old at next) field.now result (code_left self.new (at + code_width self.old) next) }
+    {
+        match self.stage {
+            CodeStage::Front => match self.front::<R>(at, field) {
+                Err(fail) => return Err(fail),
+                Ok(()) => {}
+            },
+            CodeStage::LoopCount => {
+                self.loops = Items::new(self.alloc);
+                self.loops::<R>(u16_of(field));
+            }
+            CodeStage::Simdlen(left) => {
+                let simdlen = simdlen_of(u16_of(field));
+                if !is_good_simdlen(simdlen) {
+                    return Err(refused(at, ObjectRule::O7));
+                }
+                self.site.simdlen = simdlen;
+                self.stage = CodeStage::Low(left);
+            }
+            CodeStage::Low(left) => {
+                self.site.low = u16_of(field);
+                self.stage = CodeStage::High(left);
+            }
+            CodeStage::High(left) => {
+                self.site.high = u16_of(field);
+                self.stage = CodeStage::CaptureCount(left);
+            }
+            CodeStage::CaptureCount(left) => {
+                self.site.captures = Items::new(self.alloc);
+                self.captures::<R>(left, u16_of(field));
+            }
+            CodeStage::Capture(left, more) => {
+                self.site.captures.push(u16_of(field))?;
+                self.captures::<R>(left, more);
+            }
+            CodeStage::GuardCount(left) => {
+                self.site.guards = Items::new(self.alloc);
+                self.guards::<R>(left, u16_of(field));
+            }
+            CodeStage::GuardFirst(left, more) => {
+                self.stage = CodeStage::GuardSecond(left, more, u16_of(field));
+            }
+            CodeStage::GuardSecond(left, more, first) => {
+                let second = u16_of(field);
+                self.site.guards.push(Guard { first, second })?;
+                self.guards::<R>(left, more);
+            }
+            CodeStage::BodyNumber(left) => match self.number::<R>(left, at, field) {
+                Err(fail) => return Err(fail),
+                Ok(()) => {}
+            },
+            CodeStage::BodyFront(left) => match self.body_front::<R>(left, at, field) {
+                Err(fail) => return Err(fail),
+                Ok(()) => {}
+            },
+            CodeStage::BodyLoops(left) => {
+                if u16_of(field) != 0 {
+                    return Err(refused(at, ObjectRule::O7));
+                }
+                self.stage = CodeStage::BodyInstrCount(left);
+            }
+            CodeStage::BodyInstrCount(left) => {
+                self.instrs = Items::new(self.alloc);
+                self.body_instrs::<R>(left, u32_of(field))?;
+            }
+            CodeStage::BodyInstr(left, more) => {
+                self.instrs.push(instr_of(field))?;
+                self.body_instrs::<R>(left, more)?;
+            }
+            CodeStage::InstrCount => {
+                self.instrs = Items::new(self.alloc);
+                self.instrs::<R>(u32_of(field));
+            }
+            CodeStage::Instr(more) => {
+                self.instrs.push(instr_of(field))?;
+                self.instrs::<R>(more);
+            }
+            CodeStage::Done => {}
         }
         Ok(())
     }

@@ -4,6 +4,7 @@ ghost use Rattle.std.specs.Prelude.{◌≡◌, ◌∷◌, [], false, true, slice
 ghost use Rattle.std.specs.Option.{option_map};
 ghost use Rattle.vk_kinds.specs.declared.heads.CType.TheVariants as CType;
 ghost use Rattle.vk_code.specs.Instruction.{types};
+ghost use Rattle.vk_code.specs.Valid.{is_good_simdlen};
 ghost use Rattle.vk_code_format.specs.Codes.{has_value, shape_kinds};
 ghost use Rattle.vk_code_format.specs.Fields.{none_at, value_type_of};
 
@@ -99,5 +100,29 @@ pub fn value_type_of(number: u8) -> Option<CType>
         pointer_of(number - 8, true)
     } else {
         pointer_of(number - 16, false)
+    }
+}
+
+/// A number of lanes that is asked for, none for 0.
+pub fn simdlen_of(number: u16) -> Option<u16>
+    ensures { result ≡ none_at 0 number }
+{
+    if number == 0 { None } else { Some(number) }
+}
+
+/// Whether it is a power of two from 2 to 256, or none.
+pub fn is_good_simdlen(simdlen: Option<u16>) -> bool
+    ensures { result ≡ is_good_simdlen simdlen }
+{
+    match simdlen {
+        Some(n) => n == 2
+            || n == 4
+            || n == 8
+            || n == 16
+            || n == 32
+            || n == 64
+            || n == 128
+            || n == 256,
+        None => true,
     }
 }

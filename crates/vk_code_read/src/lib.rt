@@ -5,4 +5,5 @@ pub mod code;
 pub mod fields;
 pub mod front;
 
+pub use code::CodeFeed;
 pub use front::{CodePlace, FrontFeed};
