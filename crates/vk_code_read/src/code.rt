@@ -5,7 +5,7 @@ ghost use Rattle.byteorder.specs.Endian.{little_number};
 ghost use Rattle.vk_format.specs.Format.{Format};
 ghost use Rattle.vk_format.specs.Codec.{number, read_after};
 ghost use Rattle.vk_code_format.specs.declared.rows.CodeRow.{CodeRow};
-ghost use Rattle.vk_code_format.specs.Codes.{guard, instr_of, instruction, loop_site};
+ghost use Rattle.vk_code_format.specs.Codes.{code, guard, instr_of, instruction, loop_site};
 ghost use Rattle.vk_code_read.specs.Inner.Left.{IsWanted, Stepped, place_of};
 ghost use Rattle.vk_code_read.specs.declared.code.CodeStage.TheVariants as CodeStage;
 ghost use Rattle.vk_code_read.specs.Inner.LeftCode.{after_body_instrs, body_next, codes_in, from_number, from_body, after_captures, after_guards, after_instrs, after_loop, after_loops, code_left, code_width};
@@ -16,8 +16,8 @@ use std::alloc::Global;
 use std::mem;
 use vk_code::{Guard, Instr};
 use vk_code_format::{BodyRow, LoopRow, RoutineRow};
-use vk_format::{Items, ObjectFail, ObjectRule};
 use vk_format::fields::{u8_of, u16_of, u32_of, u64_of};
+use vk_format::{Items, ObjectFail, ObjectRule};
 
 /// Which field comes next. Counts of what is left are without the item that the field belongs to.
 #[derive(Clone, Copy)]
@@ -75,6 +75,29 @@ pub fn instr_of(field: &[u8]) -> Instr
 }
 
 impl CodeFeed {
+    /// Code of which nothing has come.
+    pub fn new<R>(alloc: Global, place: CodePlace) -> CodeFeed
+        ensures { (at : ℕ) (next : CodeRow → ℕ → Format R) → code_left result at next ≡ (code (place_of place)).read at next }
+    {
+        CodeFeed {
+            alloc,
+            place,
+            stage: CodeStage::Front,
+            front: FrontFeed::new(alloc, place),
+            loops: Items::new(alloc),
+            site: LoopRow {
+                simdlen: None,
+                low: 0,
+                high: 0,
+                captures: Items::new(alloc),
+                guards: Items::new(alloc),
+                body: BodyRow::Number(0),
+            },
+            body: FrontFeed::new(alloc, place),
+            instrs: Items::new(alloc),
+        }
+    }
+
     /// How many bytes the next field has.
     pub fn width(&self) -> usize
         ensures { result ≡ code_width self.now }
@@ -129,7 +152,7 @@ impl CodeFeed {
     fn captures<R>(&mut self, left: u16, more: u16)
         ensures { (at : ℕ) (next : CodeRow → ℕ → Format R) → code_left self.new at next
             ≡ read_after (λ before. number 2) more self.old.site.captures at
-                (after_captures (place_of self.old.place) self.old.site (after_loop (place_of self.old.place) self.old.front.front self.old.loops left next)) }
+            (after_captures (place_of self.old.place) self.old.site (after_loop (place_of self.old.place) self.old.front.front self.old.loops left next)) }
     {
         self.stage = if more == 0 {
             CodeStage::GuardCount(left)
@@ -142,7 +165,7 @@ impl CodeFeed {
     fn guards<R>(&mut self, left: u16, more: u16)
         ensures { (at : ℕ) (next : CodeRow → ℕ → Format R) → code_left self.new at next
             ≡ read_after (λ before. guard) more self.old.site.guards at
-                (after_guards (place_of self.old.place) self.old.site (after_loop (place_of self.old.place) self.old.front.front self.old.loops left next)) }
+            (after_guards (place_of self.old.place) self.old.site (after_loop (place_of self.old.place) self.old.front.front self.old.loops left next)) }
     {
         if more == 0 {
             self.begin_body::<R>(left);
@@ -157,7 +180,10 @@ impl CodeFeed {
             ≡ from_body (place_of self.old.place) self.old.site at (after_loop (place_of self.old.place) self.old.front.front self.old.loops left next) }
     {
         match self.place {
-            CodePlace::Object { functions, params: _ } => {
+            CodePlace::Object {
+                functions,
+                params: _,
+            } => {
                 let captures = self.site.captures.as_slice().len();
                 let params = 1 + captures;
                 self.body = FrontFeed::new(self.alloc, CodePlace::Object { functions, params });

@@ -1,5 +1,5 @@
 -- What is still wanted of code, by what has come.
-use Rattle.std.specs.Prelude.{◌≡◌, ℕ, ◌+◌, List, [], ◌∷◌, ◌++◌, length}
+use Rattle.std.specs.Prelude.{ℕ, List, [], ◌∷◌, ◌++◌, length}
 use Rattle.vk_code.specs.declared.code.Guard.{Guard}
 use Rattle.vk_code.specs.declared.instruction.Instr.{Instr}
 use Rattle.vk_format.specs.declared.rules.ObjectRule.TheVariants.{O7}
@@ -10,11 +10,8 @@ use Rattle.vk_code_format.specs.declared.rows.BodyRow.TheVariants.{Inline, Numbe
 use Rattle.vk_code_format.specs.declared.rows.CodeRow.{CodeRow}
 use Rattle.vk_code_format.specs.declared.rows.FrontRow.{FrontRow}
 use Rattle.vk_code_format.specs.declared.rows.LoopRow.{LoopRow}
-use Rattle.vk_code_format.specs.declared.rows.RoutineRow.{RoutineRow}
-use Rattle.vk_code_format.specs.Codes.{Place, in_object, in_image, body, front, guard, instruction, instructions, loop_site}
+use Rattle.vk_code_format.specs.Codes.{Place, in_object, in_image, body, guard, instruction, instructions, loop_site}
 use Rattle.vk_code_format.specs.Fields.{below, simdlen}
-use Rattle.vk_code_read.specs.declared.front.CodePlace.{CodePlace}
-use Rattle.vk_code_read.specs.declared.front.FrontFeed.{FrontFeed}
 use Rattle.vk_code_read.specs.declared.code.CodeFeed.{CodeFeed}
 use Rattle.vk_code_read.specs.declared.code.CodeStage.{CodeStage}
 use Rattle.vk_code_read.specs.declared.code.CodeStage.TheVariants.{Front, LoopCount, Simdlen, Low, High, CaptureCount, Capture, GuardCount, GuardFirst, GuardSecond, BodyNumber, BodyFront, BodyLoops, BodyInstrCount, BodyInstr, InstrCount, Instr as OneInstr, Done}
