@@ -1,23 +1,22 @@
 -- What holds at each visit of a unit that breaks no rule.
-use Rattle.std.proofs.Common.{◌≡◌, ℕ, zero, suc, ◌<◌, ◌≤◌, Bool, true, false, cond, ◌&&◌, ◌||◌, not, length, get_or, List, [], ◌∷◌, ◌++◌, Contains, Option, Some, None, is_none, is_some, refl, sym, ap, subst, ◌∙◌, arith}
+use Rattle.std.proofs.Common.{◌≡◌, ℕ, zero, suc, Bool, true, false, ◌&&◌, ◌||◌, not, List, [], ◌∷◌, ◌++◌, Contains, Option, Some, None, is_some, refl, sym, ap, ◌∙◌, arith}
 use Rattle.std.specs.List.{flat_map, list_all}
 use Rattle.vk_unit_rules.specs.declared.rules.UnitRule.TheVariants.{C8, C9, C10, C16, D15, D16, D18, D19}
 use Rattle.vk_ast.specs.declared.names.NameId.{NameId}
 use Rattle.vk_ast.specs.Directives.{DirectiveTree}
 use Rattle.vk_ast.specs.Tree.{Tree, Trees, name}
-use Rattle.vk_ast.specs.Units.{FunctionTree, ItemTree, function}
+use Rattle.vk_ast.specs.Units.{FunctionTree, ItemTree}
 use Rattle.vk_rules_book.specs.declared.contexts.Around.{Around}
 use Rattle.vk_rules_book.specs.declared.contexts.Role.{Role}
 use Rattle.vk_rules_book.specs.declared.faults.Fault.{Fault}
-use Rattle.vk_rules_book.specs.declared.typings.Typing.{Typing}
-use Rattle.vk_rules_book.specs.Directives.{directive_faults, has_signature, have_signatures, is_no_width, repeats_a_name}
-use Rattle.vk_rules_book.specs.Expressions.{call_faults, called_faults, expression_faults, is_changing, is_free_pointer, is_ill_typed, is_plain_function, is_simd, is_undeclared, is_wrong_call, is_wrong_place, is_written_parameter, lets_written, own_faults}
+use Rattle.vk_rules_book.specs.Directives.{directive_faults, has_signature, is_no_width, repeats_a_name}
+use Rattle.vk_rules_book.specs.Expressions.{call_faults, called_faults, expression_faults, is_changing, is_free_pointer, is_ill_typed, is_plain_function, is_simd, is_undeclared, is_wrong_call, is_wrong_place, own_faults}
 use Rattle.vk_rules_book.specs.Faults.{directive_fault, fault_at, fault_with, when}
 use Rattle.vk_rules_book.specs.Places.{line_of, token_of}
 use Rattle.vk_rules_book.specs.Rules.{Subject, faults_at, faults_of}
 use Rattle.vk_rules_book.specs.Scopes.{Meaning, Scope, is_long, meaning_of}
 use Rattle.vk_rules_book.specs.Signatures.{head_of, signature_of}
-use Rattle.vk_rules_book.specs.Typings.{is_typed, takes_typed, typing_of, typings_of}
+use Rattle.vk_rules_book.specs.Typings.{typing_of, typings_of}
 use Rattle.vk_rules_book.specs.Visits.{Visit, along, item_visits, unit_visits}
 use Rattle.vk_rules.proofs.Quiet.{item_sound, quiet_left, quiet_part, quiet_right, when_not}
 use Rattle.vk_rules.specs.Inner.Walk.{IsSound}
