@@ -137,6 +137,9 @@ def main():
     if not compilers:
         print("names: no gcc and no clang here")
         return 0
+    if not os.path.exists(f"{TOP}/crates/vk_main/out/vk_main"):
+        print("names: the program is not built (./vfabi build)")
+        return 0
     compilers["vfabi"] = product
     rng = random.Random(seed)
     compared = refused = 0
