@@ -19,8 +19,8 @@ use vk_words::{Request, WordFail, request_of};
 /// Does what the words ask.
 ///
 /// - `demangle FILE` reads one vector name a line and writes each in words.
-/// - `lanes --isa b UNIT NAME ARG..` reads the unit, one function that returns an integer expression of its parameters, calls its
-///   vector variant NAME on the lanes' arguments, and writes the line `lane I: N` of each lane on `out`.
+/// - `lanes --isa b UNIT NAME ARG..` reads the unit, judges it, calls the vector variant NAME of its one function, which returns an
+///   integer expression of its parameters, on the lanes' arguments, and writes the line `lane I: N` of each lane on `out`.
 /// - `mangle --target T UNIT` reads the unit, judges it and writes each vector name that its directives give.
 ///
 /// An end other than `Done` puts its one line on `err`; a fault of `err` changes no answer. The answers, in this order:

@@ -1,7 +1,6 @@
 -- What the steps of the command say of its file.
-use Rattle.std.proofs.Common.{◌≡◌, ◌∙◌, ℕ, ◌<◌, ◌≤◌, List, [], ◌∷◌, ◌++◌, length, map, Option, None, Some, refl, sym, ap, subst}
+use Rattle.std.proofs.Common.{◌≡◌, ℕ, ◌≤◌, List, [], ◌∷◌, ◌++◌, length, map, Option, None, Some, refl, sym, ap, subst}
 use Rattle.std.specs.List.{concat, flat_map}
-use Rattle.vk_types.specs.declared.types.Stop.{Stop}
 use Rattle.vk_io.specs.Whole.{IsTooLong}
 use Rattle.vk_ends.specs.Inputs.{IsUnread}
 use Rattle.vk_ends.specs.Printing.{IsPrinted}
@@ -10,9 +9,7 @@ use Rattle.vk_ends.specs.declared.ends.Refusal.TheVariants.{Size, Name as Unname
 use Rattle.vk_ends.specs.declared.ends.End.{End}
 use Rattle.vk_ends.specs.declared.ends.End.TheVariants.{Done, Refused, Words, Stopped, ReadFault, WriteFault, Memory}
 use Rattle.vk_simple.specs.Form.{FormTree}
-use Rattle.vk_call.specs.Lines.{lane_lines}
-use Rattle.vk_cmd_lanes.specs.Lanes.{AllowsLanes, Asked, IsCall, IsUncalled, PrintsLanes, RefusesLanes}
-use Rattle.vk_cmd_lanes.specs.Units.{IsFormed}
+use Rattle.vk_cmd_lanes.specs.Lanes.{AllowsLanes, Asked, IsFormed, IsUncalled, PrintsLanes, RefusesLanes}
 
 -- a text for each
 pub flat_map_is : {A : Type 0} (f : A → List ℕ) (xs : List A) → flat_map f xs ≡ concat (map f xs)
@@ -36,7 +33,7 @@ file_printed r contents bytes read text has same h =
 pub allowed_refused : (r : Asked) (bytes : List ℕ) (refusal : Refusal) → RefusesLanes r (Some bytes) refusal → AllowsLanes (Refused refusal)
 allowed_refused r bytes (Size input) h = h.0
 allowed_refused r bytes (Unnamed line at rule) h = h
-allowed_refused r bytes (Unfit input line directive rule) h = (h.1, h.2)
+allowed_refused r bytes (Unfit input line directive rule) h = h.1
 allowed_refused r bytes (NotYet input) h = h.1
 allowed_refused r bytes (CallRefusal fault) h = tt
 

@@ -8,14 +8,14 @@ ghost use Rattle.vk_call.specs.Lines.{lane_lines};
 ghost use Rattle.vk_ends.specs.declared.ends.Refusal.{Refusal};
 ghost use Rattle.vk_cmd_lanes.specs.Lanes.{IsCall, IsUncalled, LanesHolds, PrintsLanes, RefusesLanes, asked_of};
 
-use crate::unit::unit_of;
 use std::alloc::{AllocError, AllocFailed, Global};
+use vk_accept::{NoUnit, accepted_of};
 use vk_call::{ArgumentFail, call as call_lanes};
 use vk_ends::{CallFault, CallRule, End, Refusal, UNIT_LIMIT, print, read_input};
 use vk_io::{Lines, Memory, Sink, Store};
+use vk_kinds::Target;
 use vk_simple::form::{Form, form_of};
 use vk_simple::variant::vector_name;
-use vk_unit_rules::UnitFail;
 
 /// A call of a variant on its lanes.
 #[derive(Clone, Copy)]
@@ -28,7 +28,7 @@ pub struct Call<'a> {
     pub arguments: &'a [&'a str],
 }
 
-/// Reads the unit of a call, calls its variant and writes the line of each lane.
+/// Reads the unit of a call, judges it, calls its variant and writes the line of each lane.
 pub fn lanes<S: Store, O: Sink>(alloc: Global, call: Call, store: &mut S, out: &mut O) -> End
     ensures { LanesHolds (asked_of call.entry) (S.state store.old) (S.state store.new) (O.state out.old) (O.state out.new) result }
 {
@@ -59,19 +59,26 @@ fn call_unit(alloc: Global, bytes: &[u8], call: Call) -> Result<Lines, NoCall>
     ensures lines { IfOk result (λ lines. PrintsLanes (asked_of call.entry) (Some bytes.now) (concat lines) None) }
     ensures refused { (refusal : Refusal) → IsErrOf result (NoCall.Refused refusal) → RefusesLanes (asked_of call.entry) (Some bytes.now) refusal }
 {
-    let unit = match unit_of(alloc, bytes) {
-        Ok(unit) => unit,
-        Err(UnitFail::Fault { line, rule }) => {
+    let checked = match accepted_of(alloc, bytes, Target::X86) {
+        Ok(checked) => checked,
+        Err(
+            NoUnit::Rule {
+                line,
+                directive,
+                rule,
+            },
+        ) => {
             return Err(NoCall::Refused(Refusal::Unit {
                 input: 0,
                 line,
-                directive: 0,
+                directive,
                 rule,
             }));
         }
-        Err(UnitFail::Memory) => return Err(NoCall::Memory),
+        Err(NoUnit::NotYet) => return Err(NoCall::Refused(Refusal::NotYet { input: 0 })),
+        Err(NoUnit::Memory) => return Err(NoCall::Memory),
     };
-    match form_of(&unit) {
+    match form_of(checked.unit()) {
         Some(form) => call_variant(alloc, &form, call),
         None => Err(NoCall::Refused(Refusal::NotYet { input: 0 })),
     }

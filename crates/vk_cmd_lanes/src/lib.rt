@@ -3,6 +3,5 @@
 
 pub mod command;
 pub mod laws;
-pub mod unit;
 
 pub use command::{Call, lanes};

@@ -1,6 +1,7 @@
 //! Whole calls, with what they write and how they end.
 mod calls;
 mod faults;
+mod judged;
 mod mangled;
 mod name_files;
 mod outside;
@@ -13,6 +14,7 @@ mod wrong_words;
 use super::*;
 use calls::REFUSED;
 use faults::FAULTS;
+use judged::JUDGED;
 use mangled::MANGLED;
 use name_files::NAME_FILES;
 use outside::{BYTES, INTS, LONGS, SHORTS};
@@ -149,6 +151,16 @@ fn wrong_words_are_told(rt: HostRuntime) -> Result<(), Fail> {
 #[test]
 fn units_are_refused(rt: HostRuntime) -> Result<(), Fail> {
     for (unit, text, out, err, status) in &UNITS {
+        let words = split(rt.alloc(), text)?;
+        let found = difference(rt.alloc(), unit, &words, (out, err, *status))?;
+        assert_eq!(rt; found, "none", "at {text} on {unit}");
+    }
+    Ok(())
+}
+
+#[test]
+fn units_are_judged(rt: HostRuntime) -> Result<(), Fail> {
+    for (unit, text, out, err, status) in &JUDGED {
         let words = split(rt.alloc(), text)?;
         let found = difference(rt.alloc(), unit, &words, (out, err, *status))?;
         assert_eq!(rt; found, "none", "at {text} on {unit}");

@@ -1,6 +1,6 @@
 -- A right call, and its lines.
 use Rattle.std.proofs.Common.{◌≡◌, ◌∙◌, ℕ, List, map, string_bytes, rules, ap, sym, subst}
-use Rattle.std.specs.List.{concat, flat_map}
+use Rattle.std.specs.List.{concat}
 use Rattle.vk_simple.specs.Form.{form_tree}
 use Rattle.vk_simple.specs.Parameters.{heads_of}
 use Rattle.vk_simple.specs.Variant.{lanes_of}

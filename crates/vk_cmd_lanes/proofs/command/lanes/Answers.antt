@@ -1,5 +1,5 @@
 -- What the command does, step by step, and so what holds.
-use Rattle.std.proofs.Common.{◌≡◌, ◌∙◌, Err, ap}
+use Rattle.std.proofs.Common.{◌∙◌, Err, ap}
 use Rattle.std.specs.List.{concat}
 use Rattle.vk_ends.proofs.Acting.{acts_memory, acts_printed, acts_refused, acts_unread}
 use Rattle.vk_ends.proofs.Holding.{holds}
