@@ -1,3 +1,4 @@
 pub mod Fitting
 pub mod Live
+pub mod Rows
 pub mod Writes

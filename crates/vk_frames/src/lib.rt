@@ -3,5 +3,6 @@
 
 pub mod frame;
 pub mod lanes;
+pub mod rows;
 
 pub use frame::Frame;
