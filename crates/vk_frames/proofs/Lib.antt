@@ -1,4 +1,4 @@
 pub mod Fitting
+pub mod Given
 pub mod Live
-pub mod Rows
 pub mod Writes

@@ -1,5 +1,5 @@
 -- Lanes after a word of a frame was written.
-use Rattle.std.proofs.Common.{◌≡◌, ◌≢◌, ℕ, zero, suc, ◌+◌, ◌*◌, ◌<◌, ◌≤◌, List, length, cond, refl, ap, arith, None, Option, replicate, sym, ◌∙◌, subst, inl, inr, true, false, Bool, ◌&&◌, not, ◌⊎◌, nat_lt, slice_index_or, ◌==◌}
+use Rattle.std.proofs.Common.{◌≡◌, ◌≢◌, ℕ, zero, suc, ◌+◌, ◌*◌, ◌<◌, ◌≤◌, List, length, cond, refl, ap, arith, None, Option, replicate, sym, ◌∙◌, subst, inl, inr, true, false, Bool, ◌&&◌, not, ◌⊎◌, nat_lt, is_none, slice_index_or, ◌==◌}
 use Rattle.std.proofs.Math.ListN.{set}
 use Rattle.std.proofs.lemmas.List.{get_or-set_same, get_or-set_other}
 use Rattle.std.proofs.lemmas.Bool.{cases_eq, cases_lt, eq-eqb, eqb-true, false≢true, le-ltb, lt-ltb, ltb-true, ne_eqb}
@@ -189,6 +189,10 @@ none_kept : (k j : ℕ) → slice_index_or {A = Option Stop} (replicate k None) 
 none_kept zero j = refl
 none_kept (suc k) zero = refl
 none_kept (suc k) (suc j) = none_kept k j
+
+pub all_run : (k j : ℕ) (inside : Bool) → inside ≡ (inside && is_none (slice_index_or {A = Option Stop} (replicate k None) j None))
+all_run k j true = sym (ap (λ (o : Option Stop). is_none o) (none_kept k j))
+all_run k j false = refl
 
 zero_row : (A B : Bool) (x : ℕ) → x ≡ 0 → cond (A && B) x 0 ≡ 0
 zero_row true true x h = h

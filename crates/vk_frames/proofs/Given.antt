@@ -1,14 +1,17 @@
 -- A register written by a kernel.
-use Rattle.std.proofs.Common.{◌≡◌, ◌≢◌, ℕ, ◌+◌, ◌*◌, ◌<◌, ◌≤◌, List, length, cond, refl, ap, ap₂, arith, None, Option, sym, ◌∙◌, subst, inl, inr, true, false, Bool, ◌&&◌, not, nat_lt, ◌==◌, is_none, slice_index_or}
-use Rattle.std.proofs.Math.ListN.{drop, take}
+use Rattle.std.proofs.Common.{◌≡◌, ◌≢◌, ℕ, ◌+◌, ◌*◌, ◌<◌, ◌≤◌, List, cond, refl, ap, ap₂, arith, Option, sym, ◌∙◌, subst, inl, inr, true, false, Bool, ◌&&◌, not, nat_lt, ◌==◌}
 use Rattle.std.proofs.Math.Nat.{mul-le-mul_left}
-use Rattle.std.proofs.lemmas.List.{get_or-drop, get_or-take}
 use Rattle.std.proofs.lemmas.Bool.{cases_eq, cases_lt, eq-eqb, eqb-true, false≢true, lt-ltb, ltb-true, ne_eqb}
 use Rattle.vk_types.specs.declared.types.Word.{Word}
 use Rattle.vk_types.specs.declared.types.Stop.{Stop}
+use Rattle.vk_types.specs.declared.types.Ty.{Ty}
+use Rattle.vk_types.specs.Numbers.{IsCanonical}
+use Rattle.vk_lanes.specs.declared.mask.LaneMask.{LaneMask}
 use Rattle.vk_lanes.specs.Kernels.{AreRows, WritesRow}
-use Rattle.vk_lanes.specs.Words.{word_in}
-use Rattle.vk_object.specs.Lane.{LaneState, is_live, with_reg}
+use Rattle.vk_lanes.specs.Masks.{is_on, lane_count}
+use Rattle.vk_lanes.specs.Words.{AreTyped, word_in}
+use Rattle.vk_lanes.proofs.Bits.{inside}
+use Rattle.vk_object.specs.Lane.{LaneState, with_reg}
 use Rattle.vk_frames.specs.Rows.{lane_of, pattern_at, place_of}
 use Rattle.vk_frames.specs.Written.{gives_row}
 use Rattle.vk_frames.proofs.Writes.{and_off, mask_kept, off_and, reg_kept, reg_written, same_lane, same_lanes}
@@ -71,25 +74,35 @@ module _ (lanes registers d : ℕ) (on : ℕ → Bool) (value : ℕ → ℕ) (ol
       told j true e = ap (with_reg (before j) d) (same j e)
       told j false e = refl
 
--- ---- masks
+-- ---- rows of registers, by the places of their first words
 
--- the row of a mask, cut out of the words
-pub row_cut : (lanes r p : ℕ) (words : List Word) → p ≡ r * lanes → (j : ℕ) → j < lanes → word_in (take lanes (drop p words)) j ≡ word_in words (place_of lanes r j)
-row_cut lanes r p words e j l = get_or-take lanes (drop p words) j (record { 0 = 0 }) l ∙ get_or-drop p words j (record { 0 = 0 }) ∙ ap (λ n. word_in words (n + j)) e
+module _ (lanes registers : ℕ) (live : LaneMask) (count : lane_count live ≡ lanes) (words : List Word) (stops : List (Option Stop)) where
+  pub lane_inside : (j : ℕ) → is_on live j ≡ true → j < lanes
+  lane_inside j h = subst (λ n. j < n) count (inside live j h)
 
--- a lane that has not stopped is live where it is on
-pub live_told : (running inside : Bool) (x : ℕ) (stop : Option Stop) → running ≡ (inside && is_none stop) → cond running (not (x == 0)) false ≡ ((inside && not (x == 0)) && is_none stop)
-live_told running inside x stop e = ap (λ b. cond b (not (x == 0)) false) e ∙ by inside (is_none stop)
-  where
-    by : (a b : Bool) → cond (a && b) (not (x == 0)) false ≡ ((a && not (x == 0)) && b)
-    by true true = sym (and_true (not (x == 0)))
-      where
-        and_true : (t : Bool) → (t && true) ≡ t
-        and_true true = refl
-        and_true false = refl
-    by true false = sym (and_false (not (x == 0)))
-      where
-        and_false : (t : Bool) → (t && false) ≡ false
-        and_false true = refl
-        and_false false = refl
-    by false b = refl
+  -- a word of a row is that of the register, in a lane that is on
+  pub on_word : (r p j : ℕ) → r < registers → p ≡ r * lanes → is_on live j ≡ true → word_in words (p + j) ≡ (lane_of lanes registers words stops j).reg r
+  on_word r p j below e h = ap (λ n. word_in words (n + j)) e ∙ sym (reg_word lanes registers words stops r j below (lane_inside j h))
+
+  pub typed_row : (t : Ty) (r p : ℕ) → r < registers → p ≡ r * lanes → AreTyped t (is_on live) (λ j. (lane_of lanes registers words stops j).reg r) → AreTyped t (is_on live) (λ i. word_in words (p + i))
+  typed_row t r p below e h j on = subst (IsCanonical t) (sym (on_word r p j below e on)) (h j on)
+
+  -- a test of the word counts only where a lane is on
+  pub tested_row : (test : ℕ → Bool) (r p j : ℕ) → r < registers → p ≡ r * lanes → (is_on live j && test (word_in words (p + j))) ≡ (is_on live j && test ((lane_of lanes registers words stops j).reg r))
+  tested_row test r p j below e = by (is_on live j) refl
+    where
+      by : (o : Bool) → is_on live j ≡ o → (o && test (word_in words (p + j))) ≡ (o && test ((lane_of lanes registers words stops j).reg r))
+      by true h = ap test (on_word r p j below e h)
+      by false h = refl
+
+  -- what a kernel makes of two rows and of the row that it writes
+  pub row_of : (f : ℕ → ℕ → ℕ → ℕ) (a b d pa pb pd : ℕ) (new : List Word) → a < registers → b < registers → d < registers → pa ≡ a * lanes → pb ≡ b * lanes → pd ≡ d * lanes →
+      WritesRow (lane_count live) pd (is_on live) (λ i. f (word_in words (pa + i)) (word_in words (pb + i)) (word_in words (pd + i))) words new →
+      lane_of lanes registers new stops ≡ gives_row (is_on live) d (λ j l. f (l.reg a) (l.reg b) (l.reg d)) (lane_of lanes registers words stops)
+  row_of f a b d pa pb pd new ha hb hd ea eb ed w =
+      let value : ℕ → ℕ = λ i. f (word_in words (pa + i)) (word_in words (pb + i)) (word_in words (pd + i)) in
+      row_given lanes registers d (is_on live) value words new stops
+      (subst (λ n. WritesRow n (d * lanes) (is_on live) value words new) count (subst (λ p. WritesRow (lane_count live) p (is_on live) value words new) ed w))
+      hd lane_inside (λ j l. f (l.reg a) (l.reg b) (l.reg d))
+      (λ j h. ap₂ (λ x y. f x y (word_in words (pd + j))) (on_word a pa j ha ea h) (on_word b pb j hb eb h)
+      ∙ ap (f ((lane_of lanes registers words stops j).reg a) ((lane_of lanes registers words stops j).reg b)) (on_word d pd j hd ed h))
