@@ -11,10 +11,11 @@ use Rattle.vk_lanes.specs.Kernels.{AreRows, WritesRow}
 use Rattle.vk_lanes.specs.Masks.{is_on, lane_count}
 use Rattle.vk_lanes.specs.Words.{AreTyped, word_in}
 use Rattle.vk_lanes.proofs.Bits.{inside}
-use Rattle.vk_object.specs.Lane.{LaneState, with_reg}
+use Rattle.vk_object.specs.Lane.{LaneState, with_mask, with_reg}
+use Rattle.vk_frames.specs.Each.{each}
 use Rattle.vk_frames.specs.Rows.{lane_of, pattern_at, place_of}
 use Rattle.vk_frames.specs.Written.{gives_row}
-use Rattle.vk_frames.proofs.Writes.{and_off, mask_kept, off_and, reg_kept, reg_written, same_lane, same_lanes}
+use Rattle.vk_frames.proofs.Writes.{and_off, mask_kept, mask_written, off_and, reg_kept, reg_written, same_lane, same_lanes}
 
 -- the rows of two registers are one, or have no place in common
 pub rows_apart : (lanes a d p q : ℕ) → p ≡ a * lanes → q ≡ d * lanes → AreRows lanes p q
@@ -74,6 +75,67 @@ module _ (lanes registers d : ℕ) (on : ℕ → Bool) (value : ℕ → ℕ) (ol
       told j true e = ap (with_reg (before j) d) (same j e)
       told j false e = refl
 
+-- ---- a mask written whole
+
+-- off in each lane, then on in some
+pub row_twice : (lanes p : ℕ) (first on : ℕ → Bool) (old mid new : List Word) → ((j : ℕ) → first j ≡ nat_lt j lanes) → WritesRow lanes p first (λ j. 0) old mid → WritesRow lanes p on (λ j. 1) mid new →
+    WritesRow lanes p (λ j. nat_lt j lanes) (λ j. cond (on j) 1 0) old new
+row_twice lanes p first on old mid new all u w = record {
+  row = λ j l. w.row j l
+      ∙ (ap (λ n. cond (on j) 1 n) (u.row j l ∙ ap (λ b. cond b 0 (word_in old (p + j))) (all j ∙ lt-ltb j lanes l))
+      ∙ ap (λ b. cond b (cond (on j) 1 0) (word_in old (p + j))) (sym (lt-ltb j lanes l)));
+  below = λ k h. w.below k h ∙ u.below k h;
+  above = λ k h. w.above k h ∙ u.above k h;
+}
+
+bit_on : (on : Bool) → not (cond on 1 0 == 0) ≡ on
+bit_on true = refl
+bit_on false = refl
+
+module _ (lanes registers m : ℕ) (on : ℕ → Bool) (old new : List Word) (stops : List (Option Stop)) (w : WritesRow lanes ((registers + m) * lanes) (λ j. nat_lt j lanes) (λ j. cond (on j) 1 0) old new) where
+  abbrev bit : ℕ → ℕ
+  bit j = cond (on j) 1 0
+
+  abbrev past : ℕ → LaneState
+  past = lane_of lanes registers old stops
+
+  abbrev now : ℕ → LaneState
+  now = lane_of lanes registers new stops
+
+  seen : (q j : ℕ) → nat_lt j lanes ≡ true → word_in new (place_of lanes q j) ≡ cond ((q == (registers + m)) && nat_lt j lanes) (bit j) (word_in old (place_of lanes q j))
+  seen q j a = read lanes registers (registers + m) (λ j. nat_lt j lanes) bit old new stops w q j (ltb-true j lanes a)
+
+  same_reg : (j q : ℕ) → (now j).reg q ≡ (past j).reg q
+  same_reg j q = reg_kept (bit j) (word_in old (place_of lanes q j)) (word_in new (place_of lanes q j)) (nat_lt j lanes) (nat_lt q registers) (q == (registers + m)) (nat_lt j lanes) (seen q j)
+      (λ a b. off_and (q == (registers + m)) (nat_lt j lanes) (ne_eqb q (registers + m) (λ e. omega (arith, e, ltb-true q registers b))))
+
+  same_test : (k : ℕ) → ((registers + k) == (registers + m)) ≡ (k == m)
+  same_test k = elim (cases_eq k m) as (λ _. ((registers + k) == (registers + m)) ≡ (k == m)) [
+    | inl s ↦ eq-eqb (registers + k) (registers + m) (omega (arith, s)) ∙ sym (eq-eqb k m s)
+    | inr d ↦ ne_eqb (registers + k) (registers + m) (λ e. d (omega (arith, e))) ∙ sym (ne_eqb k m d)
+  ]
+
+  lane_set : (j : ℕ) (inside : Bool) → nat_lt j lanes ≡ inside → now j ≡ cond inside (with_mask (past j) m (on j)) (past j)
+  lane_set j true e = same_lane (now j) (with_mask (past j) m (on j)) (same_reg j)
+      (λ k. subst (λ b. (now j).on k ≡ cond b (on j) ((past j).on k)) (same_test k)
+      (mask_written (bit j) (word_in old (place_of lanes (registers + k) j)) (word_in new (place_of lanes (registers + k) j)) (nat_lt j lanes) ((registers + k) == (registers + m)) (nat_lt j lanes) (on j)
+      (seen (registers + k) j) e e (bit_on (on j)))) refl
+  lane_set j false e = same_lane (now j) (past j) (same_reg j)
+      (λ k. mask_kept (bit j) (word_in old (place_of lanes (registers + k) j)) (word_in new (place_of lanes (registers + k) j)) (nat_lt j lanes) ((registers + k) == (registers + m)) (nat_lt j lanes)
+      (seen (registers + k) j) (λ a. and_off ((registers + k) == (registers + m)) (nat_lt j lanes) e)) refl
+
+  pub mask_given : now ≡ each lanes (λ j l. with_mask l m (on j)) past
+  mask_given = same_lanes now (each lanes (λ j l. with_mask l m (on j)) past) (λ j. lane_set j (nat_lt j lanes) refl)
+
+pub mask_filled : (lanes registers m p : ℕ) (all on : LaneMask) (old mid new : List Word) (stops : List (Option Stop)) → lane_count all ≡ lanes → lane_count on ≡ lanes → p ≡ (registers + m) * lanes → ((j : ℕ) → is_on all j ≡ nat_lt j lanes) →
+    WritesRow (lane_count all) p (is_on all) (λ j. 0) old mid → WritesRow (lane_count on) p (is_on on) (λ j. 1) mid new →
+    lane_of lanes registers new stops ≡ each lanes (λ j l. with_mask l m (is_on on j)) (lane_of lanes registers old stops)
+mask_filled lanes registers m p all on old mid new stops ca co e h u w = mask_given lanes registers m (is_on on) old new stops
+    (subst (λ q. WritesRow lanes q (λ j. nat_lt j lanes) (λ j. cond (is_on on j) 1 0) old new) e
+    (row_twice lanes p (is_on all) (is_on on) old mid new h
+    (subst (λ n. WritesRow n p (is_on all) (λ j. 0) old mid) ca u)
+    (subst (λ n. WritesRow n p (is_on on) (λ j. 1) mid new) co w)))
+
 -- ---- rows of registers, by the places of their first words
 
 module _ (lanes registers : ℕ) (live : LaneMask) (count : lane_count live ≡ lanes) (words : List Word) (stops : List (Option Stop)) where
@@ -95,14 +157,20 @@ module _ (lanes registers : ℕ) (live : LaneMask) (count : lane_count live ≡ 
       by true h = ap test (on_word r p j below e h)
       by false h = refl
 
+  row_at : (d p : ℕ) (value : ℕ → ℕ) (new : List Word) → p ≡ d * lanes → WritesRow (lane_count live) p (is_on live) value words new → WritesRow lanes (d * lanes) (is_on live) value words new
+  row_at d p value new e w = subst (λ n. WritesRow n (d * lanes) (is_on live) value words new) count (subst (λ q. WritesRow (lane_count live) q (is_on live) value words new) e w)
+
+  -- a row that gets what depends on the lane alone
+  pub row_gets : (value : ℕ → ℕ) (d p : ℕ) (new : List Word) → d < registers → p ≡ d * lanes → WritesRow (lane_count live) p (is_on live) value words new →
+      lane_of lanes registers new stops ≡ gives_row (is_on live) d (λ j l. value j) (lane_of lanes registers words stops)
+  row_gets value d p new h e w = row_given lanes registers d (is_on live) value words new stops (row_at d p value new e w) h lane_inside (λ j l. value j) (λ j on. refl)
+
   -- what a kernel makes of two rows and of the row that it writes
   pub row_of : (f : ℕ → ℕ → ℕ → ℕ) (a b d pa pb pd : ℕ) (new : List Word) → a < registers → b < registers → d < registers → pa ≡ a * lanes → pb ≡ b * lanes → pd ≡ d * lanes →
       WritesRow (lane_count live) pd (is_on live) (λ i. f (word_in words (pa + i)) (word_in words (pb + i)) (word_in words (pd + i))) words new →
       lane_of lanes registers new stops ≡ gives_row (is_on live) d (λ j l. f (l.reg a) (l.reg b) (l.reg d)) (lane_of lanes registers words stops)
   row_of f a b d pa pb pd new ha hb hd ea eb ed w =
       let value : ℕ → ℕ = λ i. f (word_in words (pa + i)) (word_in words (pb + i)) (word_in words (pd + i)) in
-      row_given lanes registers d (is_on live) value words new stops
-      (subst (λ n. WritesRow n (d * lanes) (is_on live) value words new) count (subst (λ p. WritesRow (lane_count live) p (is_on live) value words new) ed w))
-      hd lane_inside (λ j l. f (l.reg a) (l.reg b) (l.reg d))
+      row_given lanes registers d (is_on live) value words new stops (row_at d pd value new ed w) hd lane_inside (λ j l. f (l.reg a) (l.reg b) (l.reg d))
       (λ j h. ap₂ (λ x y. f x y (word_in words (pd + j))) (on_word a pa j ha ea h) (on_word b pb j hb eb h)
       ∙ ap (f ((lane_of lanes registers words stops j).reg a) ((lane_of lanes registers words stops j).reg b)) (on_word d pd j hd ed h))

@@ -78,6 +78,17 @@ impl<'a> Frame<'a> {
         row * self.lanes + lane
     }
 
+    // The place of the first word of a row.
+    pub(crate) fn start(&self, row: usize) -> usize
+        requires fits { IsFrame self.now }
+        requires row { row < self.now.registers + self.now.masks }
+        requires short { row < 131072 }
+        ensures start { result ≡ row * self.now.lanes }
+        ensures inside { result + self.now.lanes ≤ length self.now.words.now }
+    {
+        row * self.lanes
+    }
+
     /// The word of a register in a lane.
     pub fn word(&self, register: u16, lane: usize) -> Word
         requires fits { IsFrame self.now }

@@ -1,43 +1,17 @@
-// Operators on whole rows of registers, and masks of lanes from rows of masks.
+// Operators on whole rows of registers.
 
-ghost use Rattle.std.specs.Prelude.{◌≡◌, ℕ, ◌+◌, ◌*◌, ◌<◌, ◌≤◌, ◌&&◌, ◌==◌, cond, false, length, nat_lt, not};
+ghost use Rattle.std.specs.Prelude.{◌≡◌, ℕ, ◌<◌, ◌&&◌};
 ghost use Rattle.vk_types.specs.Numbers.{number_of};
 ghost use Rattle.vk_types.specs.Operators.{divides_by_0};
 ghost use Rattle.vk_lanes.specs.Kernels.{AreOperands, convert_word, op1_word, op2_word};
 ghost use Rattle.vk_lanes.specs.Masks.{is_on, lane_count};
 ghost use Rattle.vk_lanes.specs.Words.{AreTyped};
-ghost use Rattle.vk_object.specs.Lane.{is_live};
 ghost use Rattle.vk_frames.specs.Frames.{FitsAs, IsFrame, lanes_of};
-ghost use Rattle.vk_frames.specs.Rows.{pattern_at, place_of};
 ghost use Rattle.vk_frames.specs.Written.{gives_row};
 
 use crate::frame::Frame;
-use vk_lanes::{LaneMask, mask_of, rows_convert, rows_copy, rows1, rows2};
-use vk_types::{Op1, Op2, Ty};
-
-// The place of the first word of a row.
-fn start(frame: &Frame<'_>, row: usize) -> usize
-    requires fits { IsFrame frame.now }
-    requires row { row < frame.now.registers + frame.now.masks }
-    requires short { row < 131072 }
-    ensures start { result ≡ row * frame.now.lanes }
-    ensures inside { result + frame.now.lanes ≤ length frame.now.words.now }
-{
-    row * frame.lanes
-}
-
-/// The lanes that are on in a mask and have not stopped.
-pub fn live_lanes(frame: &Frame<'_>, m: u16) -> LaneMask
-    requires fits { IsFrame frame.now }
-    requires mask { m < frame.now.masks }
-    ensures len { lane_count result ≡ frame.now.lanes }
-    ensures lanes { (j : ℕ) → is_on result j ≡ is_live m (lanes_of frame.now j) }
-{
-    let first = start(frame, frame.registers + usize::from(m));
-    let mut live = LaneMask::new(frame.lanes);
-    mask_of(&frame.running, &frame.words[first..first + frame.lanes], &mut live);
-    live
-}
+use vk_lanes::{LaneMask, rows_convert, rows_copy, rows_fill, rows_number, rows1, rows2};
+use vk_types::{Op1, Op2, Ty, Word};
 
 /// `d := a op b` in the lanes that are on in `live`, where `a` is of type `t` and `b` of type `bt` (C17 6.5.5 to 6.5.12).
 ///
@@ -66,9 +40,9 @@ pub fn binary_row(
     ensures zero_len { lane_count zero.new ≡ frame.old.lanes }
     ensures zero { (j : ℕ) → is_on zero.new j ≡ (is_on live.now j && divides_by_0 op (number_of bt ((lanes_of frame.old j).reg b))) }
 {
-    let left = start(frame, usize::from(a));
-    let right = start(frame, usize::from(b));
-    let written = start(frame, usize::from(d));
+    let left = frame.start(usize::from(a));
+    let right = frame.start(usize::from(b));
+    let written = frame.start(usize::from(d));
     rows2(op, t, live, frame.words, left, right, bt, written, zero);
 }
 
@@ -82,8 +56,8 @@ pub fn unary_row(frame: &mut Frame<'_>, op: Op1, t: Ty, live: &LaneMask, a: u16,
     ensures fits { FitsAs frame.old frame.new }
     ensures lanes { lanes_of frame.new ≡ gives_row (is_on live.now) d (λ j l. op1_word op t (l.reg a)) (lanes_of frame.old) }
 {
-    let operand = start(frame, usize::from(a));
-    let written = start(frame, usize::from(d));
+    let operand = frame.start(usize::from(a));
+    let written = frame.start(usize::from(d));
     rows1(op, t, live, frame.words, operand, written);
 }
 
@@ -97,8 +71,8 @@ pub fn convert_row(frame: &mut Frame<'_>, from: Ty, to: Ty, live: &LaneMask, a: 
     ensures fits { FitsAs frame.old frame.new }
     ensures lanes { lanes_of frame.new ≡ gives_row (is_on live.now) d (λ j l. convert_word from to (l.reg a)) (lanes_of frame.old) }
 {
-    let operand = start(frame, usize::from(a));
-    let written = start(frame, usize::from(d));
+    let operand = frame.start(usize::from(a));
+    let written = frame.start(usize::from(d));
     rows_convert(from, to, live, frame.words, operand, written);
 }
 
@@ -111,7 +85,31 @@ pub fn copy_row(frame: &mut Frame<'_>, live: &LaneMask, a: u16, d: u16)
     ensures fits { FitsAs frame.old frame.new }
     ensures lanes { lanes_of frame.new ≡ gives_row (is_on live.now) d (λ j l. l.reg a) (lanes_of frame.old) }
 {
-    let operand = start(frame, usize::from(a));
-    let written = start(frame, usize::from(d));
+    let operand = frame.start(usize::from(a));
+    let written = frame.start(usize::from(d));
     rows_copy(live, frame.words, operand, written);
+}
+
+/// `d :=` a word in the lanes that are on in `live`.
+pub fn fill_row(frame: &mut Frame<'_>, live: &LaneMask, d: u16, word: Word)
+    requires fits { IsFrame frame.old }
+    requires live { lane_count live.now ≡ frame.old.lanes }
+    requires d { d < frame.old.registers }
+    ensures fits { FitsAs frame.old frame.new }
+    ensures lanes { lanes_of frame.new ≡ gives_row (is_on live.now) d (λ j l. word.0) (lanes_of frame.old) }
+{
+    let written = frame.start(usize::from(d));
+    rows_fill(live, frame.words, written, word);
+}
+
+/// `d :=` the number of the lane in the lanes that are on in `live`.
+pub fn number_row(frame: &mut Frame<'_>, live: &LaneMask, d: u16)
+    requires fits { IsFrame frame.old }
+    requires live { lane_count live.now ≡ frame.old.lanes }
+    requires d { d < frame.old.registers }
+    ensures fits { FitsAs frame.old frame.new }
+    ensures lanes { lanes_of frame.new ≡ gives_row (is_on live.now) d (λ j l. j) (lanes_of frame.old) }
+{
+    let written = frame.start(usize::from(d));
+    rows_number(live, frame.words, written);
 }

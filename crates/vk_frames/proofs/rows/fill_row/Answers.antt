@@ -1,0 +1,7 @@
+use Rattle.std.proofs.Common.{◌*◌, ap, ◌∙◌}
+use Rattle.vk_frames.proofs.Given.{row_gets}
+use Rattle.vk_frames.proofs.rows.fill_row.Goals as goal
+
+pub returns-clause-lanes : goal.returns-clause-lanes
+returns-clause-lanes c = row_gets c.args.frame.now.lanes c.args.frame.now.registers c.args.live.now c.requires.live c.args.frame.now.words.now c.args.frame.now.stops (λ j. c.args.word.0) c.args.d c.start-written.result c.rows_fill.new.rows c.requires.d
+    (c.start-written.ensures.start ∙ ap (λ n. n * c.args.frame.now.lanes) c.from.ensures) c.rows_fill.ensures
