@@ -1,6 +1,6 @@
 // The registers and masks of one call.
 
-ghost use Rattle.std.specs.Prelude.{◌≡◌, ℕ, ◌+◌, ◌*◌, ◌<◌, ◌≤◌, ◌==◌, nat_lt, not, ◌&&◌, None, is_none, length, slice_index_or};
+ghost use Rattle.std.specs.Prelude.{◌≡◌, ℕ, ◌+◌, ◌*◌, ◌^◌, ◌<◌, ◌≤◌, ◌==◌, nat_lt, not, ◌&&◌, None, is_none, length, slice_index_or};
 ghost use Rattle.vk_object.specs.Lane.{is_live, with_mask, with_reg, with_stop};
 ghost use Rattle.vk_object.specs.Machine.{put};
 ghost use Rattle.vk_lanes.specs.Masks.{is_on, lane_count};
@@ -23,6 +23,7 @@ pub struct Frame<'a> {
     stops: [Option<Stop>; 256],
     // The lanes that have not stopped.
     pub(crate) running: LaneMask,
+    ghost patterns: { (k : ℕ) → pattern_at words.now k < 2 ^ 64 },
     ghost counted: { lane_count running ≡ lanes },
     ghost runs: { (j : ℕ) → is_on running j ≡ (nat_lt j lanes && is_none (slice_index_or stops j None)) },
 }
