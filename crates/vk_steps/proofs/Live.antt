@@ -1,7 +1,7 @@
 -- What kernels make of rows, as what is done in each lane that is live.
 use Rattle.std.proofs.Common.{◌≡◌, ℕ, ◌+◌, ◌^◌, ◌<◌, ◌≤◌, ◌==◌, not, ◌&&◌, nat_lt, Bool, true, false, cond, ℤ, pos, int_le, List, Result, Ok, Err, refl, ap, sym, subst, ◌∙◌, arith, rules}
 use Rattle.std.specs.Ordering.{int_eq}
-use Rattle.std.proofs.lemmas.Bool.{cases_eq, eqb-true, le-ltb}
+use Rattle.std.proofs.lemmas.Bool.{eqb-true, false≢true, le-ltb}
 use Rattle.vk_types.specs.declared.types.Op2.{Op2}
 use Rattle.vk_types.specs.declared.types.Op2.TheVariants.{Add, Sub, Mul, Div, Rem, And, Or, Xor, Shl, Shr, Eq, Ne, Lt, Le}
 use Rattle.vk_types.specs.declared.types.Stop.{Stop}
@@ -45,34 +45,14 @@ pub masks_each : (lanes d : ℕ) (before : ℕ → LaneState) (on : ℕ → Bool
 masks_each lanes d before on test told = same_lanes (each lanes (λ j l. with_mask l d (on j)) before) (each lanes (λ j l. with_mask l d (test l)) before)
     (λ j. ap (λ b. cond (nat_lt j lanes) (with_mask (before j) d b) (before j)) (told j))
 
--- where nothing is done
-pub none_each : (lanes : ℕ) (before : ℕ → LaneState) (on : ℕ → Bool) (k : LaneState → LaneState) → ((j : ℕ) → on j ≡ false) → before ≡ each lanes (λ j l. cond (on j) (k l) l) before
-none_each lanes before on k off = same_lanes before (each lanes (λ j l. cond (on j) (k l) l) before) (λ j. by j (nat_lt j lanes))
-  where
-    by : (j : ℕ) (inside : Bool) → before j ≡ cond inside (cond (on j) (k (before j)) (before j)) (before j)
-    by j true = sym (ap (λ b. cond b (k (before j)) (before j)) (off j))
-    by j false = refl
-
 -- a lane is as before until its turn
 pub not_yet : (n : ℕ) (k : ℕ → LaneState → LaneState) (before : ℕ → LaneState) → each n k before n ≡ before n
 not_yet n k before = ap (λ b. cond b (k n (before n)) (before n)) (le-ltb n n (omega arith))
 
--- ---- words of types
-
-in_range : (t : Ty) (w : ℕ) → w < 2 ^ 64 → is_canonical t w ≡ true → IsCanonical t w
-in_range t w h e = search rules
-
-pub canonical_at : (f : Frame) (regs : List CType) (t : Ty) (r j : ℕ) → HasWords regs (lanes_of f j) → reg_type regs r ≡ type_number t → IsCanonical t ((lanes_of f j).reg r)
-canonical_at f regs t r j h e = in_range t ((lanes_of f j).reg r) (small (nat_lt j f.lanes && nat_lt r f.registers)) (h r t e)
-  where
-    small : (b : Bool) → cond b (pattern_at f.words.now (place_of f.lanes r j)) 0 < 2 ^ 64
-    small true = f.patterns (place_of f.lanes r j)
-    small false = omega arith
-
 -- ---- operators that may stop
 
 -- the result, and whether it is a division by 0
-Told : Result ℤ Stop → Bool → Type 0
+abbrev Told : Result ℤ Stop → Bool → Type 0
 Told (Ok z) q = q ≡ false
 Told (Err x) q = (x ≡ Divide) × (q ≡ true)
 
@@ -95,9 +75,6 @@ told Eq t x y = refl
 told Ne t x y = refl
 told Lt t x y = refl
 told Le t x y = refl
-
-pub no_division : (op : Op2) (y : ℤ) → is_division op ≡ false → divides_by_0 op y ≡ false
-no_division op y h = search rules
 
 -- a register that gets its own word stays
 kept : (l : LaneState) (d : ℕ) (x : Stop) → with_stop (with_reg l d (l.reg d)) x ≡ with_stop l x
@@ -136,5 +113,5 @@ stopped_each f m d a b op t u live zero told_live told_zero =
     by j true true z h e k = ap (λ q. cond q (with_stop (given j) Divide) (given j)) k
         ∙ settled_lane (lanes_of f j) d (result j) (divides_by_0 op (number_of u ((lanes_of f j).reg b))) (told op t (number_of t ((lanes_of f j).reg a)) (number_of u ((lanes_of f j).reg b)))
     by j true false z h e k = ap (λ q. cond q (with_stop (lanes_of f j) Divide) (lanes_of f j)) k
-    by j false true z h e k = absurd (Rattle.std.proofs.lemmas.Bool.false≢true (sym (off j true e h)))
+    by j false true z h e k = absurd (false≢true (sym (off j true e h)))
     by j false false z h e k = refl

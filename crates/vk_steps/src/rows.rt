@@ -1,6 +1,6 @@
 // An operation on registers and masks in all lanes of a frame.
 
-ghost use Rattle.std.specs.Prelude.{◌≡◌, ℕ, ◌<◌, true};
+ghost use Rattle.std.specs.Prelude.{◌≡◌, ℕ, ◌*◌, ◌^◌, ◌<◌, true};
 ghost use Rattle.vk_types.specs.Formats.{type_number};
 ghost use Rattle.vk_code.specs.Listing.{listing_of, reg_type};
 ghost use Rattle.vk_object.specs.Lane.{number_at, ty_at};
@@ -53,7 +53,7 @@ fn operate_all(place: &Place<'_>, frame: &mut Frame<'_>, m: u16, operation: Oper
         Operation::Unary { op, ty, d, a } => unary(frame, code, m, op, ty, d, a),
         Operation::Lane { d } => number_lanes(frame, m, d),
         Operation::PtrAdd { d, a, b } => offsets(frame, code, m, d, a, b),
-        Operation::Addr { d, object } => set(frame, m, d, Word(u64::from(object) << 32)),
+        Operation::Addr { d, object } => set(frame, m, d, address(object)),
         Operation::MaskOf { d, a } => mask_of(frame, m, d, a),
         Operation::MaskAnd { d, a, b } => mask_and(frame, d, a, b),
         Operation::MaskOr { d, a, b } => mask_or(frame, d, a, b),
@@ -65,6 +65,13 @@ fn operate_all(place: &Place<'_>, frame: &mut Frame<'_>, m: u16, operation: Oper
         Operation::Print { .. } => unreachable!(),
         Operation::SimdLoop { .. } => unreachable!(),
     }
+}
+
+// The pointer to the first element of an object.
+fn address(object: u32) -> Word
+    ensures { result.0 ≡ object * 2 ^ 32 }
+{
+    Word(u64::from(object) << 32)
 }
 
 // `d :=` the pointer `a` moved by the number in `b`, lane by lane.
