@@ -21,7 +21,11 @@ pub fn live_lanes(frame: &Frame<'_>, m: u16) -> LaneMask
 {
     let first = frame.start(frame.registers + usize::from(m));
     let mut live = LaneMask::new(frame.lanes);
-    mask_of(&frame.running, &frame.words[first..first + frame.lanes], &mut live);
+    mask_of(
+        &frame.running,
+        &frame.words[first..first + frame.lanes],
+        &mut live,
+    );
     live
 }
 
@@ -34,7 +38,11 @@ pub fn on_lanes(frame: &Frame<'_>, m: u16) -> LaneMask
 {
     let first = frame.start(frame.registers + usize::from(m));
     let mut on = LaneMask::new(frame.lanes);
-    mask_of(&LaneMask::all(frame.lanes), &frame.words[first..first + frame.lanes], &mut on);
+    mask_of(
+        &LaneMask::all(frame.lanes),
+        &frame.words[first..first + frame.lanes],
+        &mut on,
+    );
     on
 }
 
