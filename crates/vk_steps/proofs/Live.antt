@@ -1,5 +1,5 @@
 -- What kernels make of rows, as what is done in each lane that is live.
-use Rattle.std.proofs.Common.{◌≡◌, ℕ, ◌+◌, ◌^◌, ◌<◌, ◌≤◌, ◌==◌, not, ◌&&◌, nat_lt, Bool, true, false, cond, ℤ, pos, int_le, List, Result, Ok, Err, refl, ap, sym, subst, ◌∙◌, arith, rules}
+use Rattle.std.proofs.Common.{◌≡◌, ℕ, ◌==◌, ◌&&◌, nat_lt, Bool, true, false, cond, ℤ, pos, Result, Ok, Err, refl, ap, sym, ◌∙◌, arith}
 use Rattle.std.specs.Ordering.{int_eq}
 use Rattle.std.proofs.lemmas.Bool.{eqb-true, false≢true, le-ltb}
 use Rattle.vk_types.specs.declared.types.Op2.{Op2}
@@ -7,23 +7,16 @@ use Rattle.vk_types.specs.declared.types.Op2.TheVariants.{Add, Sub, Mul, Div, Re
 use Rattle.vk_types.specs.declared.types.Stop.{Stop}
 use Rattle.vk_types.specs.declared.types.Stop.TheVariants.{Divide}
 use Rattle.vk_types.specs.declared.types.Ty.{Ty}
-use Rattle.vk_types.specs.Formats.{type_number}
-use Rattle.vk_types.specs.Numbers.{IsCanonical, number_of}
-use Rattle.vk_types.specs.Operators.{divided, divides_by_0, op2_number, wrapped}
-use Rattle.vk_kinds.specs.declared.heads.CType.{CType}
+use Rattle.vk_types.specs.Numbers.{number_of}
+use Rattle.vk_types.specs.Operators.{divides_by_0, op2_number, wrapped}
 use Rattle.vk_lanes.specs.Kernels.{op2_word, word_or}
-use Rattle.vk_code.specs.Listing.{reg_type}
-use Rattle.vk_code.specs.Valid.{is_canonical}
 use Rattle.vk_object.specs.Lane.{LaneState, is_live, with_mask, with_reg, with_stop}
 use Rattle.vk_frames.specs.declared.frame.Frame.{Frame}
 use Rattle.vk_frames.specs.Each.{each}
 use Rattle.vk_frames.specs.Frames.{lanes_of}
-use Rattle.vk_frames.specs.Rows.{pattern_at, place_of}
 use Rattle.vk_frames.specs.Written.{gives_row}
 use Rattle.vk_frames.proofs.Live.{past}
 use Rattle.vk_frames.proofs.Writes.{same_lane, same_lanes}
-use Rattle.vk_runs.specs.Words.{HasWords}
-use Rattle.vk_steps.specs.Inner.Results.{is_division}
 use Rattle.vk_steps.specs.Locals.{live_as, with_number}
 
 -- ---- each lane
