@@ -1,3 +1,5 @@
 pub mod Fitting
+pub mod Given
 pub mod Live
+pub mod Patterns
 pub mod Writes

@@ -53,7 +53,7 @@ lowest_next n stops h e = ap (λ k. lowest_stop k stops) (one_more n) ∙ (ap (�
 
 -- ---- lanes past the lanes
 
-past : (lanes registers : ℕ) (words : List Word) (stops : List (Option Stop)) (j m : ℕ) → nat_lt j lanes ≡ false → is_live m (lane_of lanes registers words stops j) ≡ false
+pub past : (lanes registers : ℕ) (words : List Word) (stops : List (Option Stop)) (j m : ℕ) → nat_lt j lanes ≡ false → is_live m (lane_of lanes registers words stops j) ≡ false
 past lanes registers words stops j m e = ap (λ b. (b && not (pattern_at words (place_of lanes (registers + m) j) == 0)) && is_none (slice_index_or stops j None)) e
 
 -- all lanes that are live are out of turns

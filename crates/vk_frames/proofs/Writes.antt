@@ -1,5 +1,5 @@
 -- Lanes after a word of a frame was written.
-use Rattle.std.proofs.Common.{◌≡◌, ◌≢◌, ℕ, zero, suc, ◌+◌, ◌*◌, ◌<◌, ◌≤◌, List, length, cond, refl, ap, arith, None, Option, replicate, sym, ◌∙◌, subst, inl, inr, true, false, Bool, ◌&&◌, not, ◌⊎◌, nat_lt, slice_index_or, ◌==◌}
+use Rattle.std.proofs.Common.{◌≡◌, ◌≢◌, ℕ, zero, suc, ◌+◌, ◌*◌, ◌<◌, ◌≤◌, List, length, cond, refl, ap, arith, None, Option, replicate, sym, ◌∙◌, subst, inl, inr, true, false, Bool, ◌&&◌, not, ◌⊎◌, nat_lt, is_none, slice_index_or, ◌==◌}
 use Rattle.std.proofs.Math.ListN.{set}
 use Rattle.std.proofs.lemmas.List.{get_or-set_same, get_or-set_other}
 use Rattle.std.proofs.lemmas.Bool.{cases_eq, cases_lt, eq-eqb, eqb-true, false≢true, le-ltb, lt-ltb, ltb-true, ne_eqb}
@@ -108,7 +108,7 @@ module _ (w old x : ℕ) where
   abbrev pub Read : Bool → Bool → Bool → Type 0
   Read A E I = A ≡ true → x ≡ cond (E && I) w old
 
-  reg_written : (A B E I : Bool) → Read A E I → A ≡ true → I ≡ true → (E ≡ true → B ≡ true) → cond (A && B) x 0 ≡ cond E w (cond (A && B) old 0)
+  pub reg_written : (A B E I : Bool) → Read A E I → A ≡ true → I ≡ true → (E ≡ true → B ≡ true) → cond (A && B) x 0 ≡ cond E w (cond (A && B) old 0)
   reg_written true true true true f a i g = f refl
   reg_written true true true false f a i g = absurd (false≢true i)
   reg_written true true false I f a i g = f refl
@@ -116,30 +116,30 @@ module _ (w old x : ℕ) where
   reg_written true false false I f a i g = refl
   reg_written false B E I f a i g = absurd (false≢true a)
 
-  reg_kept : (A B E I : Bool) → Read A E I → (A ≡ true → B ≡ true → (E && I) ≡ false) → cond (A && B) x 0 ≡ cond (A && B) old 0
+  pub reg_kept : (A B E I : Bool) → Read A E I → (A ≡ true → B ≡ true → (E && I) ≡ false) → cond (A && B) x 0 ≡ cond (A && B) old 0
   reg_kept true true true true f g = absurd (false≢true (sym (g refl refl)))
   reg_kept true true true false f g = f refl
   reg_kept true true false I f g = f refl
   reg_kept true false E I f g = refl
   reg_kept false B E I f g = refl
 
-  mask_written : (A E I on : Bool) → Read A E I → A ≡ true → I ≡ true → not (w == 0) ≡ on → (A && not (x == 0)) ≡ cond E on (A && not (old == 0))
+  pub mask_written : (A E I on : Bool) → Read A E I → A ≡ true → I ≡ true → not (w == 0) ≡ on → (A && not (x == 0)) ≡ cond E on (A && not (old == 0))
   mask_written true true true on f a i h = ap (λ n. not (n == 0)) (f refl) ∙ h
   mask_written true true false on f a i h = absurd (false≢true i)
   mask_written true false I on f a i h = ap (λ n. not (n == 0)) (f refl)
   mask_written false E I on f a i h = absurd (false≢true a)
 
-  mask_kept : (A E I : Bool) → Read A E I → (A ≡ true → (E && I) ≡ false) → (A && not (x == 0)) ≡ (A && not (old == 0))
+  pub mask_kept : (A E I : Bool) → Read A E I → (A ≡ true → (E && I) ≡ false) → (A && not (x == 0)) ≡ (A && not (old == 0))
   mask_kept true true true f g = absurd (false≢true (sym (g refl)))
   mask_kept true true false f g = ap (λ n. not (n == 0)) (f refl)
   mask_kept true false I f g = ap (λ n. not (n == 0)) (f refl)
   mask_kept false E I f g = refl
 
-and_off : (a b : Bool) → b ≡ false → (a && b) ≡ false
+pub and_off : (a b : Bool) → b ≡ false → (a && b) ≡ false
 and_off true b h = h
 and_off false b h = refl
 
-off_and : (a b : Bool) → a ≡ false → (a && b) ≡ false
+pub off_and : (a b : Bool) → a ≡ false → (a && b) ≡ false
 off_and a b h = ap (λ t. t && b) h
 
 module _ (lanes registers : ℕ) (words : List Word) (stops : List (Option Stop)) (j : ℕ) (w : Word) (inside : j < lanes) where
@@ -189,6 +189,10 @@ none_kept : (k j : ℕ) → slice_index_or {A = Option Stop} (replicate k None) 
 none_kept zero j = refl
 none_kept (suc k) zero = refl
 none_kept (suc k) (suc j) = none_kept k j
+
+pub all_run : (k j : ℕ) (inside : Bool) → inside ≡ (inside && is_none (slice_index_or {A = Option Stop} (replicate k None) j None))
+all_run k j true = sym (ap (λ (o : Option Stop). is_none o) (none_kept k j))
+all_run k j false = refl
 
 zero_row : (A B : Bool) (x : ℕ) → x ≡ 0 → cond (A && B) x 0 ≡ 0
 zero_row true true x h = h

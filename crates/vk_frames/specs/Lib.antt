@@ -1,3 +1,4 @@
 pub mod Each
 pub mod Frames
 pub mod Rows
+pub mod Written

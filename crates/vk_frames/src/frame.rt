@@ -1,10 +1,12 @@
 // The registers and masks of one call.
 
-ghost use Rattle.std.specs.Prelude.{◌≡◌, ℕ, ◌+◌, ◌*◌, ◌<◌, ◌≤◌, ◌==◌, not, length};
+ghost use Rattle.std.specs.Prelude.{◌≡◌, ℕ, ◌+◌, ◌*◌, ◌^◌, ◌<◌, ◌≤◌, ◌==◌, nat_lt, not, ◌&&◌, None, is_none, length, slice_index_or};
 ghost use Rattle.vk_object.specs.Lane.{is_live, with_mask, with_reg, with_stop};
 ghost use Rattle.vk_object.specs.Machine.{put};
+ghost use Rattle.vk_lanes.specs.Masks.{is_on, lane_count};
 ghost use Rattle.vk_frames.specs.Rows.{pattern_at};
 
+use vk_lanes::LaneMask;
 use vk_types::{Stop, Word};
 
 /// The most lanes of a frame.
@@ -17,8 +19,13 @@ pub struct Frame<'a> {
     pub registers: usize,
     pub masks: usize,
     pub lanes: usize,
-    words: &'a mut [Word],
+    pub(crate) words: &'a mut [Word],
     stops: [Option<Stop>; 256],
+    // The lanes that have not stopped.
+    pub(crate) running: LaneMask,
+    ghost patterns: { (k : ℕ) → pattern_at words.now k < 2 ^ 64 },
+    ghost counted: { lane_count running ≡ lanes },
+    ghost runs: { (j : ℕ) → is_on running j ≡ (nat_lt j lanes && is_none (slice_index_or stops j None)) },
 }
 
 // A word that is not 0 where the lane is on.
@@ -56,6 +63,7 @@ impl<'a> Frame<'a> {
             lanes,
             words,
             stops: [None; 256],
+            running: LaneMask::all(lanes),
         }
     }
 
@@ -69,6 +77,17 @@ impl<'a> Frame<'a> {
         ensures inside { result < length self.now.words.now }
     {
         row * self.lanes + lane
+    }
+
+    // The place of the first word of a row.
+    pub(crate) fn start(&self, row: usize) -> usize
+        requires fits { IsFrame self.now }
+        requires row { row < self.now.registers + self.now.masks }
+        requires short { row < 131072 }
+        ensures start { result ≡ row * self.now.lanes }
+        ensures inside { result + self.now.lanes ≤ length self.now.words.now }
+    {
+        row * self.lanes
     }
 
     /// The word of a register in a lane.
@@ -132,6 +151,7 @@ impl<'a> Frame<'a> {
         ensures lanes { lanes_of self.new ≡ put (lanes_of self.old) lane (with_stop (lanes_of self.old lane) stop) }
     {
         self.stops[lane] = Some(stop);
+        self.running.set(lane, false);
     }
 
     /// Whether a lane is on in a mask and has not stopped.

@@ -3,5 +3,7 @@
 
 pub mod frame;
 pub mod lanes;
+pub mod masks;
+pub mod rows;
 
 pub use frame::Frame;

@@ -43,9 +43,9 @@ pub fn store(words: u64x8, row: &mut [Word], at: usize)
     }
 }
 
-// The new words in the lanes whose bits are set, and the old ones in the others.
+/// The new words in the lanes whose bits are set, and the old ones in the others.
 #[inline]
-fn chosen8(lanes: u8, new: u64x8, old: u64x8) -> u64x8
+pub fn chosen8(lanes: u8, new: u64x8, old: u64x8) -> u64x8
     requires new { length new ≡ 8 }
     requires old { length old ≡ 8 }
     ensures len { length result ≡ 8 }

@@ -2,12 +2,14 @@
 #![tactic(auto)]
 
 mod blocks;
+pub mod fill;
 pub mod kernels;
 pub mod mask;
 pub mod masks;
 mod patterns;
 pub mod rows;
 
+pub use fill::{rows_fill, rows_number};
 pub use kernels::{lanes_convert, lanes_copy, lanes1, lanes2};
 pub use mask::LaneMask;
 pub use masks::{mask_and, mask_but, mask_of, mask_or};

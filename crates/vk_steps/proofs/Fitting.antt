@@ -1,11 +1,13 @@
 -- A frame fits its place after each step.
-use Rattle.std.proofs.Common.{◌≡◌, ℕ, ◌+◌, ◌*◌, ◌<◌, ◌≤◌, true, length, Some, ap₂, arith, subst, sym, ◌∙◌}
+use Rattle.std.proofs.Common.{◌≡◌, ℕ, ◌+◌, ◌*◌, ◌≤◌, Bool, true, false, cond, nat_lt, length, Some, refl, ap₂, arith, subst, sym, ◌∙◌}
+use Rattle.std.proofs.lemmas.Bool.{ltb-true}
 use Rattle.vk_code.specs.declared.instruction.Instr.{Instr}
 use Rattle.vk_code.specs.declared.instruction.Operation.{Operation}
 use Rattle.vk_object.specs.Images.{names_of}
 use Rattle.vk_object.specs.Lane.{LaneState}
 use Rattle.vk_object.specs.Machine.{put}
 use Rattle.vk_frames.specs.declared.frame.Frame.{Frame}
+use Rattle.vk_frames.specs.Each.{each}
 use Rattle.vk_frames.specs.Frames.{Fits, FitsAs, lanes_of}
 use Rattle.vk_runs.specs.Words.{HasWords}
 use Rattle.vk_runs.proofs.Operators.{HasOperator, HasSomeOperator, has_operator}
@@ -34,8 +36,14 @@ fits_put p a b lane k h q w e = record {
   words = subst (λ (f : ℕ → LaneState). (j : ℕ) → HasWords (regs p) (f j)) (sym e) (words_put (regs p) (lanes_of a) lane k h.words w);
 }
 
-pub fits_changed : (p : Place) (a b : Frame) (i : Instr) (o : Operation) (lane : ℕ) → FitsPlace p a → FitsAs a b → IsGood p i o → is_local o ≡ true → lane < (entry p).lanes → (entry p).lanes ≤ 256 →
-    lanes_of b ≡ put (lanes_of a) lane (changed (regs p) i.m o lane (lanes_of a lane)) → FitsPlace p b
-fits_changed p a b i o lane h q good local below few e =
-    fits_put p a b lane (changed (regs p) i.m o lane (lanes_of a lane)) h q
-    (changed_words (names_of (tables p)) (listing p).routine i.m lane o (lanes_of a lane) (omega (arith, below, few)) (operator_of i o good.is) good.typed local (h.words lane)) e
+-- the operation is done in each lane
+pub fits_each : (p : Place) (a b : Frame) (i : Instr) (o : Operation) → FitsPlace p a → FitsAs a b → IsGood p i o → is_local o ≡ true → (entry p).lanes ≤ 256 →
+    lanes_of b ≡ each (entry p).lanes (changed (regs p) i.m o) (lanes_of a) → FitsPlace p b
+fits_each p a b i o h q good local few e = record {
+  shape = fits_as (length (regs p)) (listing p).routine.masks (entry p).lanes a b h.shape q;
+  words = subst (λ (f : ℕ → LaneState). (j : ℕ) → HasWords (regs p) (f j)) (sym e) (λ j. by j (nat_lt j (entry p).lanes) refl);
+}
+  where
+    by : (j : ℕ) (inside : Bool) → nat_lt j (entry p).lanes ≡ inside → HasWords (regs p) (cond inside (changed (regs p) i.m o j (lanes_of a j)) (lanes_of a j))
+    by j true t = changed_words (names_of (tables p)) (listing p).routine i.m j o (lanes_of a j) (let l = ltb-true j (entry p).lanes t in omega (arith, l, few)) (operator_of i o good.is) good.typed local (h.words j)
+    by j false t = h.words j

@@ -1,4 +1,5 @@
 pub mod Fitting
+pub mod Live
 pub mod Locals
 pub mod Results
 pub mod Typed

@@ -4,6 +4,7 @@ use Rattle.std.specs.Prelude.{slice_get}
 use Rattle.std.proofs.lemmas.Bool.{eqb-true, false≢true, lt-ltb, ltb-true}
 use Rattle.vk_types.specs.declared.types.Ty.{Ty}
 use Rattle.vk_types.specs.declared.types.Op2.{Op2}
+use Rattle.vk_types.specs.declared.types.Op2.TheVariants.{Add, Sub, Mul, Div, Rem, And, Or, Xor, Shl, Shr, Eq, Ne, Lt, Le}
 use Rattle.vk_types.specs.Formats.{type_number}
 use Rattle.vk_kinds.specs.declared.heads.CType.{CType}
 use Rattle.vk_kinds.specs.declared.heads.CType.TheVariants.{Void, Int, Ptr}
@@ -14,7 +15,8 @@ use Rattle.vk_code.specs.Tests.{holds}
 use Rattle.vk_code.specs.Valid.{Environment, address_type, are_masks, is_canonical, is_integer, is_pointer, is_promoted, is_right, is_shift, is_typed, is_written, is_written_mask}
 use Rattle.vk_code.proofs.Faults.{and_left, and_right}
 use Rattle.vk_object.specs.Lane.{element_of, ty_at}
-use Rattle.vk_runs.proofs.Words.{number_small}
+use Rattle.vk_lanes.specs.Kernels.{AreOperands}
+use Rattle.vk_runs.proofs.Words.{number_small, ty_of_number}
 
 -- ---- registers that have a type
 
@@ -62,6 +64,9 @@ right_type op t n h = by (is_shift op) h
     by true h = h
     by false h = small_is_integer n t (eqb-true n (type_number t) h)
 
+same_at : (regs : List CType) (b : ℕ) (t : Ty) → (reg_type regs b == type_number t) ≡ true → ty_at regs b ≡ t
+same_at regs b t h = ty_of_number (slice_get regs b) t (eqb-true (reg_type regs b) (type_number t) h)
+
 pub binary_typed : (e : Environment) (c : Routine) (op : Op2) (t : Ty) (d a b : ℕ) → is_typed e c (Binary op t d a b) ≡ true → BinaryTyped c t d a b
 binary_typed e c op t d a b h =
     let n : ℕ = type_number t in
@@ -74,6 +79,43 @@ binary_typed e c op t d a b h =
       left = at_a;
       right = integer_at c.regs b (right_type op t (reg_type c.regs b) (and_right (is_promoted n && (reg_type c.regs d == n) && (reg_type c.regs a == n)) (is_right op n (reg_type c.regs b)) h));
     }
+
+right_operand : (op : Op2) (t : Ty) (regs : List CType) (b : ℕ) → is_right op (type_number t) (reg_type regs b) ≡ true → AreOperands op t (ty_at regs b)
+right_operand Add t regs b h = same_at regs b t h
+right_operand Sub t regs b h = same_at regs b t h
+right_operand Mul t regs b h = same_at regs b t h
+right_operand Div t regs b h = same_at regs b t h
+right_operand Rem t regs b h = same_at regs b t h
+right_operand And t regs b h = same_at regs b t h
+right_operand Or t regs b h = same_at regs b t h
+right_operand Xor t regs b h = same_at regs b t h
+right_operand Shl t regs b h = tt
+right_operand Shr t regs b h = tt
+right_operand Eq t regs b h = same_at regs b t h
+right_operand Ne t regs b h = same_at regs b t h
+right_operand Lt t regs b h = same_at regs b t h
+right_operand Le t regs b h = same_at regs b t h
+
+pub binary_operands : (e : Environment) (c : Routine) (op : Op2) (t : Ty) (d a b : ℕ) → is_typed e c (Binary op t d a b) ≡ true → AreOperands op t (ty_at c.regs b)
+binary_operands e c op t d a b h =
+    let n : ℕ = type_number t in
+    right_operand op t c.regs b (and_right (is_promoted n && (reg_type c.regs d == n) && (reg_type c.regs a == n)) (is_right op n (reg_type c.regs b)) h)
+
+pub same_operands : (op : Op2) (t : Ty) → AreOperands op t t
+same_operands Add t = refl
+same_operands Sub t = refl
+same_operands Mul t = refl
+same_operands Div t = refl
+same_operands Rem t = refl
+same_operands And t = refl
+same_operands Or t = refl
+same_operands Xor t = refl
+same_operands Shl t = tt
+same_operands Shr t = tt
+same_operands Eq t = refl
+same_operands Ne t = refl
+same_operands Lt t = refl
+same_operands Le t = refl
 
 pub record CompareTyped (c : Routine) (t : Ty) (d a b : ℕ) : Type 0 where
   pub d_in : d < length c.regs

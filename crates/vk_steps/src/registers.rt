@@ -1,22 +1,29 @@
-// What an operation on registers and masks does in one lane.
+// Operations on registers and masks, on whole rows but for the offsets of pointers.
 
-ghost use Rattle.std.specs.Prelude.{◌≡◌, ◌*◌, ◌^◌, ◌<◌, ◌==◌, not, ◌&&◌, ◌||◌, pos, ◌≤ℤ◌, ◌-◌, int_le, neg_ℤ};
+ghost use Rattle.std.specs.Prelude.{◌≡◌, ◌*◌, ◌^◌, ◌<◌, ◌==◌, ℕ, cond, false, not, ◌&&◌, ◌||◌, pos, ◌≤ℤ◌, ◌-◌, int_le, neg_ℤ};
+ghost use Rattle.vk_types.specs.declared.types.Stop.TheVariants.{Divide};
 ghost use Rattle.vk_types.specs.Formats.{type_number};
 ghost use Rattle.vk_types.specs.Numbers.{IsCanonical, number_of, word_of, wrap_number};
 ghost use Rattle.vk_types.specs.Operators.{op1_number, op2_number};
 ghost use Rattle.vk_code.specs.Listing.{listing_of, reg_type};
-ghost use Rattle.vk_object.specs.Lane.{is_live, number_at, ty_at, with_mask, with_reg};
+ghost use Rattle.vk_lanes.specs.Kernels.{AreOperands};
+ghost use Rattle.vk_lanes.specs.Masks.{is_on, lane_count};
+ghost use Rattle.vk_object.specs.Lane.{is_live, number_at, ty_at, with_mask, with_reg, with_stop};
 ghost use Rattle.vk_object.specs.Machine.{put};
 ghost use Rattle.vk_object.specs.Memory.{moved};
+ghost use Rattle.vk_frames.specs.Each.{each};
 ghost use Rattle.vk_frames.specs.Frames.{FitsAs, IsFrame, lanes_of};
 ghost use Rattle.vk_runs.specs.Words.{HasWords};
-ghost use Rattle.vk_steps.specs.Inner.Results.{HasPointer, with_result};
+ghost use Rattle.vk_steps.specs.Inner.Results.{HasPointer, is_division, with_result};
 ghost use Rattle.vk_steps.specs.Locals.{live_as, with_number, with_pointer};
 
 use vk_code::Code;
 use vk_frames::Frame;
+use vk_frames::masks::{live_lanes, nonzero_lanes, on_lanes, set_mask, stop_lanes};
+use vk_frames::rows::{binary_row, convert_row, copy_row, fill_row, number_row, unary_row};
 use vk_kinds::CType;
-use vk_types::{Op1, Op2, Stop, Ty, Word, convert, number, op1, op2};
+use vk_lanes::LaneMask;
+use vk_types::{Op1, Op2, Stop, Ty, Word, number};
 
 /// The type of the numbers of a register.
 pub fn ty_at(code: &Code, register: u16) -> Ty
@@ -43,21 +50,6 @@ pub fn operand(frame: &Frame<'_>, code: &Code, ty: Ty, register: u16, lane: usiz
     frame.word(register, lane)
 }
 
-/// The lane gets a word, if it is live.
-pub fn give(frame: &mut Frame<'_>, m: u16, d: u16, lane: usize, word: Word)
-    requires fits { IsFrame frame.old }
-    requires mask { m < frame.old.masks }
-    requires lane { lane < frame.old.lanes }
-    requires d { d < frame.old.registers }
-    ensures fits { FitsAs frame.old frame.new }
-    ensures lanes { lanes_of frame.new ≡ put (lanes_of frame.old) lane (live_as m (lanes_of frame.old lane) (with_reg (lanes_of frame.old lane) d word.0)) }
-{
-    if !frame.is_live(m, lane) {
-        return;
-    }
-    frame.set_word(d, lane, word);
-}
-
 /// The lane gets a word or stops, if it is live.
 pub fn settle(frame: &mut Frame<'_>, m: u16, d: u16, lane: usize, outcome: Result<Word, Stop>)
     requires fits { IsFrame frame.old }
@@ -76,38 +68,82 @@ pub fn settle(frame: &mut Frame<'_>, m: u16, d: u16, lane: usize, outcome: Resul
     }
 }
 
-/// `d := a`.
-pub fn copy(frame: &mut Frame<'_>, m: u16, d: u16, a: u16, lane: usize)
+/// `d :=` a word.
+pub fn set(frame: &mut Frame<'_>, m: u16, d: u16, word: Word)
     requires fits { IsFrame frame.old }
     requires mask { m < frame.old.masks }
-    requires lane { lane < frame.old.lanes }
+    requires d { d < frame.old.registers }
+    ensures fits { FitsAs frame.old frame.new }
+    ensures lanes { lanes_of frame.new ≡ each frame.old.lanes (λ j l. live_as m l (with_reg l d word.0)) (lanes_of frame.old) }
+{
+    let live = live_lanes(frame, m);
+    fill_row(frame, &live, d, word);
+}
+
+/// `d :=` the number of the lane.
+pub fn number_lanes(frame: &mut Frame<'_>, m: u16, d: u16)
+    requires fits { IsFrame frame.old }
+    requires mask { m < frame.old.masks }
+    requires d { d < frame.old.registers }
+    ensures fits { FitsAs frame.old frame.new }
+    ensures lanes { lanes_of frame.new ≡ each frame.old.lanes (λ j l. live_as m l (with_reg l d j)) (lanes_of frame.old) }
+{
+    let live = live_lanes(frame, m);
+    number_row(frame, &live, d);
+}
+
+/// `d := a`.
+pub fn copy(frame: &mut Frame<'_>, m: u16, d: u16, a: u16)
+    requires fits { IsFrame frame.old }
+    requires mask { m < frame.old.masks }
     requires d { d < frame.old.registers }
     requires a { a < frame.old.registers }
     ensures fits { FitsAs frame.old frame.new }
-    ensures lanes { lanes_of frame.new ≡ put (lanes_of frame.old) lane (live_as m (lanes_of frame.old lane) (with_reg (lanes_of frame.old lane) d ((lanes_of frame.old lane).reg a))) }
+    ensures lanes { lanes_of frame.new ≡ each frame.old.lanes (λ j l. live_as m l (with_reg l d (l.reg a))) (lanes_of frame.old) }
 {
-    let word = frame.word(a, lane);
-    give(frame, m, d, lane, word);
+    let live = live_lanes(frame, m);
+    copy_row(frame, &live, a, d);
 }
 
-/// `d := a`, converted from its type to that of `d`.
-pub fn convert_in(frame: &mut Frame<'_>, code: &Code, m: u16, d: u16, a: u16, lane: usize)
+/// `d := a`, converted from its type to that of `d` (C17 6.3.1.3).
+pub fn convert_in(frame: &mut Frame<'_>, code: &Code, m: u16, d: u16, a: u16)
     requires fits { IsFrame frame.old }
     requires mask { m < frame.old.masks }
-    requires lane { lane < frame.old.lanes }
     requires d { d < frame.old.registers }
-    requires words { HasWords (listing_of code.now).routine.regs (lanes_of frame.old lane) }
+    requires words { (j : ℕ) → HasWords (listing_of code.now).routine.regs (lanes_of frame.old j) }
     requires a { a < frame.old.registers }
     requires typed { reg_type (listing_of code.now).routine.regs a ≡ type_number (ty_at (listing_of code.now).routine.regs a) }
     ensures fits { FitsAs frame.old frame.new }
-    ensures lanes { lanes_of frame.new ≡ put (lanes_of frame.old) lane (live_as m (lanes_of frame.old lane) (with_reg (lanes_of frame.old lane) d (word_of (wrap_number (ty_at (listing_of code.now).routine.regs d) (number_at (listing_of code.now).routine.regs (lanes_of frame.old lane) a))))) }
+    ensures lanes { lanes_of frame.new ≡ each frame.old.lanes (λ j l. live_as m l (with_reg l d (word_of (wrap_number (ty_at (listing_of code.now).routine.regs d) (number_at (listing_of code.now).routine.regs l a))))) (lanes_of frame.old) }
 {
     let from = ty_at(code, a);
-    let word = operand(frame, code, from, a, lane);
-    give(frame, m, d, lane, convert(from, ty_at(code, d), word));
+    let to = ty_at(code, d);
+    let live = live_lanes(frame, m);
+    convert_row(frame, from, to, &live, a, d);
 }
 
-/// `d := a op b`, where `a` is of type `ty`; a divisor of 0 stops the lane.
+// Whether the operator stops at a right operand of 0.
+fn is_division(op: Op2) -> bool
+    ensures { result ≡ is_division op }
+{
+    matches!(op, Op2::Div | Op2::Rem)
+}
+
+// Stops the lanes in which something was divided by 0.
+fn stop_divided(frame: &mut Frame<'_>, op: Op2, zero: &LaneMask)
+    requires fits { IsFrame frame.old }
+    requires zero { lane_count zero.now ≡ frame.old.lanes }
+    requires none { is_division op ≡ false → (j : ℕ) → is_on zero.now j ≡ false }
+    ensures fits { FitsAs frame.old frame.new }
+    ensures lanes { lanes_of frame.new ≡ each frame.old.lanes (λ j l. cond (is_on zero.now j) (with_stop l Divide) l) (lanes_of frame.old) }
+{
+    if !is_division(op) {
+        return;
+    }
+    stop_lanes(frame, zero, Stop::Divide);
+}
+
+/// `d := a op b`, where `a` is of type `ty` and `b` of type `right` (C17 6.5.5 to 6.5.12); a divisor of 0 stops the lane.
 pub fn binary(
     frame: &mut Frame<'_>,
     code: &Code,
@@ -117,78 +153,39 @@ pub fn binary(
     d: u16,
     a: u16,
     b: u16,
-    lane: usize,
+    right: Ty,
 )
     requires fits { IsFrame frame.old }
     requires mask { m < frame.old.masks }
-    requires lane { lane < frame.old.lanes }
     requires d { d < frame.old.registers }
-    requires words { HasWords (listing_of code.now).routine.regs (lanes_of frame.old lane) }
+    requires words { (j : ℕ) → HasWords (listing_of code.now).routine.regs (lanes_of frame.old j) }
     requires a { a < frame.old.registers }
     requires b { b < frame.old.registers }
     requires left { reg_type (listing_of code.now).routine.regs a ≡ type_number ty }
-    requires right { reg_type (listing_of code.now).routine.regs b ≡ type_number (ty_at (listing_of code.now).routine.regs b) }
+    requires right { reg_type (listing_of code.now).routine.regs b ≡ type_number right }
+    requires operands { AreOperands op ty right }
     ensures fits { FitsAs frame.old frame.new }
-    ensures lanes { lanes_of frame.new ≡ put (lanes_of frame.old) lane (live_as m (lanes_of frame.old lane) (with_number (lanes_of frame.old lane) d (op2_number op ty (number_of ty ((lanes_of frame.old lane).reg a)) (number_at (listing_of code.now).routine.regs (lanes_of frame.old lane) b)))) }
+    ensures lanes { lanes_of frame.new ≡ each frame.old.lanes (λ j l. live_as m l (with_number l d (op2_number op ty (number_of ty (l.reg a)) (number_of right (l.reg b))))) (lanes_of frame.old) }
 {
-    let right = ty_at(code, b);
-    let x = operand(frame, code, ty, a, lane);
-    let y = operand(frame, code, right, b, lane);
-    settle(frame, m, d, lane, op2(op, ty, x, y, right));
+    let live = live_lanes(frame, m);
+    let mut zero = LaneMask::new(frame.lanes);
+    binary_row(frame, op, ty, &live, a, b, right, d, &mut zero);
+    stop_divided(frame, op, &zero);
 }
 
-/// `d := a op b` of a comparison, where `a` and `b` are of type `ty`.
-pub fn compare(
-    frame: &mut Frame<'_>,
-    code: &Code,
-    m: u16,
-    op: Op2,
-    ty: Ty,
-    d: u16,
-    a: u16,
-    b: u16,
-    lane: usize,
-)
+/// `d := op a`, where `a` is of type `ty` (C17 6.5.3.3).
+pub fn unary(frame: &mut Frame<'_>, code: &Code, m: u16, op: Op1, ty: Ty, d: u16, a: u16)
     requires fits { IsFrame frame.old }
     requires mask { m < frame.old.masks }
-    requires lane { lane < frame.old.lanes }
     requires d { d < frame.old.registers }
-    requires words { HasWords (listing_of code.now).routine.regs (lanes_of frame.old lane) }
-    requires a { a < frame.old.registers }
-    requires b { b < frame.old.registers }
-    requires left { reg_type (listing_of code.now).routine.regs a ≡ type_number ty }
-    requires right { reg_type (listing_of code.now).routine.regs b ≡ type_number ty }
-    ensures fits { FitsAs frame.old frame.new }
-    ensures lanes { lanes_of frame.new ≡ put (lanes_of frame.old) lane (live_as m (lanes_of frame.old lane) (with_number (lanes_of frame.old lane) d (op2_number op ty (number_of ty ((lanes_of frame.old lane).reg a)) (number_of ty ((lanes_of frame.old lane).reg b))))) }
-{
-    let x = operand(frame, code, ty, a, lane);
-    let y = operand(frame, code, ty, b, lane);
-    settle(frame, m, d, lane, op2(op, ty, x, y, ty));
-}
-
-/// `d := op a`, where `a` is of type `ty`.
-pub fn unary(
-    frame: &mut Frame<'_>,
-    code: &Code,
-    m: u16,
-    op: Op1,
-    ty: Ty,
-    d: u16,
-    a: u16,
-    lane: usize,
-)
-    requires fits { IsFrame frame.old }
-    requires mask { m < frame.old.masks }
-    requires lane { lane < frame.old.lanes }
-    requires d { d < frame.old.registers }
-    requires words { HasWords (listing_of code.now).routine.regs (lanes_of frame.old lane) }
+    requires words { (j : ℕ) → HasWords (listing_of code.now).routine.regs (lanes_of frame.old j) }
     requires a { a < frame.old.registers }
     requires typed { reg_type (listing_of code.now).routine.regs a ≡ type_number ty }
     ensures fits { FitsAs frame.old frame.new }
-    ensures lanes { lanes_of frame.new ≡ put (lanes_of frame.old) lane (live_as m (lanes_of frame.old lane) (with_reg (lanes_of frame.old lane) d (word_of (op1_number op ty (number_of ty ((lanes_of frame.old lane).reg a)))))) }
+    ensures lanes { lanes_of frame.new ≡ each frame.old.lanes (λ j l. live_as m l (with_reg l d (word_of (op1_number op ty (number_of ty (l.reg a)))))) (lanes_of frame.old) }
 {
-    let x = operand(frame, code, ty, a, lane);
-    give(frame, m, d, lane, op1(op, ty, x));
+    let live = live_lanes(frame, m);
+    unary_row(frame, op, ty, &live, a, d);
 }
 
 /// A pointer moved by so many elements, where its offset stays in 32 bits.
@@ -232,57 +229,63 @@ pub fn offset(frame: &mut Frame<'_>, code: &Code, m: u16, d: u16, a: u16, b: u16
 }
 
 /// Mask `d :=` whether the lane is live and `a` is not 0.
-pub fn mask_of(frame: &mut Frame<'_>, m: u16, d: u16, a: u16, lane: usize)
+pub fn mask_of(frame: &mut Frame<'_>, m: u16, d: u16, a: u16)
     requires fits { IsFrame frame.old }
-    requires lane { lane < frame.old.lanes }
     requires mask { m < frame.old.masks }
     requires d { d < frame.old.masks }
     requires a { a < frame.old.registers }
     ensures fits { FitsAs frame.old frame.new }
-    ensures lanes { lanes_of frame.new ≡ put (lanes_of frame.old) lane (with_mask (lanes_of frame.old lane) d (is_live m (lanes_of frame.old lane) && not ((lanes_of frame.old lane).reg a == 0))) }
+    ensures lanes { lanes_of frame.new ≡ each frame.old.lanes (λ j l. with_mask l d (is_live m l && not (l.reg a == 0))) (lanes_of frame.old) }
 {
-    let on = frame.is_live(m, lane) && frame.word(a, lane).0 != 0;
-    frame.set_on(d, lane, on);
+    let live = live_lanes(frame, m);
+    let on = nonzero_lanes(frame, &live, a);
+    set_mask(frame, d, &on);
 }
 
 /// Mask `d := a` and `b`.
-pub fn mask_and(frame: &mut Frame<'_>, d: u16, a: u16, b: u16, lane: usize)
+pub fn mask_and(frame: &mut Frame<'_>, d: u16, a: u16, b: u16)
     requires fits { IsFrame frame.old }
-    requires lane { lane < frame.old.lanes }
     requires d { d < frame.old.masks }
     requires a { a < frame.old.masks }
     requires b { b < frame.old.masks }
     ensures fits { FitsAs frame.old frame.new }
-    ensures lanes { lanes_of frame.new ≡ put (lanes_of frame.old) lane (with_mask (lanes_of frame.old lane) d ((lanes_of frame.old lane).on a && (lanes_of frame.old lane).on b)) }
+    ensures lanes { lanes_of frame.new ≡ each frame.old.lanes (λ j l. with_mask l d (l.on a && l.on b)) (lanes_of frame.old) }
 {
-    let on = frame.is_on(a, lane) && frame.is_on(b, lane);
-    frame.set_on(d, lane, on);
+    let left = on_lanes(frame, a);
+    let right = on_lanes(frame, b);
+    let mut on = LaneMask::new(frame.lanes);
+    vk_lanes::mask_and(&left, &right, &mut on);
+    set_mask(frame, d, &on);
 }
 
 /// Mask `d := a` or `b`.
-pub fn mask_or(frame: &mut Frame<'_>, d: u16, a: u16, b: u16, lane: usize)
+pub fn mask_or(frame: &mut Frame<'_>, d: u16, a: u16, b: u16)
     requires fits { IsFrame frame.old }
-    requires lane { lane < frame.old.lanes }
     requires d { d < frame.old.masks }
     requires a { a < frame.old.masks }
     requires b { b < frame.old.masks }
     ensures fits { FitsAs frame.old frame.new }
-    ensures lanes { lanes_of frame.new ≡ put (lanes_of frame.old) lane (with_mask (lanes_of frame.old lane) d ((lanes_of frame.old lane).on a || (lanes_of frame.old lane).on b)) }
+    ensures lanes { lanes_of frame.new ≡ each frame.old.lanes (λ j l. with_mask l d (l.on a || l.on b)) (lanes_of frame.old) }
 {
-    let on = frame.is_on(a, lane) || frame.is_on(b, lane);
-    frame.set_on(d, lane, on);
+    let left = on_lanes(frame, a);
+    let right = on_lanes(frame, b);
+    let mut on = LaneMask::new(frame.lanes);
+    vk_lanes::mask_or(&left, &right, &mut on);
+    set_mask(frame, d, &on);
 }
 
 /// Mask `d := a` and not `b`.
-pub fn mask_but(frame: &mut Frame<'_>, d: u16, a: u16, b: u16, lane: usize)
+pub fn mask_but(frame: &mut Frame<'_>, d: u16, a: u16, b: u16)
     requires fits { IsFrame frame.old }
-    requires lane { lane < frame.old.lanes }
     requires d { d < frame.old.masks }
     requires a { a < frame.old.masks }
     requires b { b < frame.old.masks }
     ensures fits { FitsAs frame.old frame.new }
-    ensures lanes { lanes_of frame.new ≡ put (lanes_of frame.old) lane (with_mask (lanes_of frame.old lane) d ((lanes_of frame.old lane).on a && not ((lanes_of frame.old lane).on b))) }
+    ensures lanes { lanes_of frame.new ≡ each frame.old.lanes (λ j l. with_mask l d (l.on a && not (l.on b))) (lanes_of frame.old) }
 {
-    let on = frame.is_on(a, lane) && !frame.is_on(b, lane);
-    frame.set_on(d, lane, on);
+    let left = on_lanes(frame, a);
+    let right = on_lanes(frame, b);
+    let mut on = LaneMask::new(frame.lanes);
+    vk_lanes::mask_but(&left, &right, &mut on);
+    set_mask(frame, d, &on);
 }

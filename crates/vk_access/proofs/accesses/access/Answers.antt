@@ -1,6 +1,6 @@
-use Rattle.std.proofs.Common.{ℕ, arith, refl, sym}
+use Rattle.std.proofs.Common.{◌≡◌, ℕ, ap, arith, refl, sym}
 use Rattle.vk_object.specs.Lane.{View, acts}
-use Rattle.vk_object.specs.Machine.{World, in_lane}
+use Rattle.vk_object.specs.Machine.{World, in_lane, sweep}
 use Rattle.vk_frames.specs.Frames.{lanes_of}
 use Rattle.vk_steps.specs.Places.{entry, regs}
 use Rattle.vk_access.specs.Outer.{world}
@@ -37,3 +37,10 @@ returns-in_err-access_in-clause-runs g c =
     broken c.from_residual.result c.in_err-access_in.field-0.0 _ _ _ _ _ (is_err c.from_residual.result c.in_err-access_in.field-0.0 c.from_residual.ensures.1)
     (sweep_breaks (extents p.image.now) (regs p) c.args.instr.m c.args.operation c.loop-lane.lane (entry p).lanes (lanes_of c.args.frame.now) (lanes_of c.loop-lane.frame) _ _ _ c.in_err-access_in.field-0.0
     (omega (arith, c.loop-lane-test.true, c.requires.fits.shape.lanes_are)) c.loop-lane.invariant.goes c.in_err-access_in.ensures.runs)
+
+pub returns-clause-runs : goal.returns-clause-runs
+returns-clause-runs g c =
+    let p = c.args.place.now in
+    let step : ℕ → View → View = λ j v. acts (extents p.image.now) (regs p) c.args.instr.m j c.args.operation v in
+    let end : c.loop-lane.lane ≡ (entry p).lanes = omega (arith, c.loop-lane-test.false, c.requires.fits.shape.lanes_are) in
+    leads_as World _ _ _ _ _ _ (λ m. ap (λ n. sweep n step (world (lanes_of c.args.frame.now) m)) (sym end)) (λ m. refl) c.loop-lane.invariant.goes

@@ -1,17 +1,13 @@
-use Rattle.std.proofs.Common.{ap, ap₂, ◌∙◌}
-use Rattle.vk_types.specs.Numbers.{number_of}
-use Rattle.vk_types.specs.Operators.{op2_number, result_type}
-use Rattle.vk_object.specs.Machine.{put}
-use Rattle.vk_frames.specs.Frames.{lanes_of}
-use Rattle.vk_steps.specs.Locals.{live_as, with_number}
-use Rattle.vk_steps.proofs.Results.{settled}
+use Rattle.std.proofs.Common.{cond, ap₂, ◌∙◌}
+use Rattle.vk_types.specs.declared.types.Stop.TheVariants.{Divide}
+use Rattle.vk_lanes.specs.Masks.{is_on}
+use Rattle.vk_object.specs.Lane.{with_stop}
+use Rattle.vk_frames.specs.Each.{each}
+use Rattle.vk_steps.proofs.Live.{stopped_each}
 use Rattle.vk_steps.proofs.registers.binary.Goals as goal
 
 pub returns-clause-lanes : goal.returns-clause-lanes
 returns-clause-lanes c =
-    let before = lanes_of c.args.frame.now in
-    let l = before c.args.lane in
-    c.settle.ensures.lanes ∙ ap (λ k. put before c.args.lane (live_as c.args.m l k))
-    (settled l c.args.d (result_type c.args.op c.args.ty) c.op2.result _ c.op2.ensures.number c.op2.ensures.canonical
-    ∙ (ap₂ (λ x y. with_number l c.args.d (op2_number c.args.op c.args.ty (number_of c.args.ty x) (number_of c.ty_at-right.result y))) c.operand-x.ensures.word c.operand-y.ensures.word
-    ∙ ap (λ t. with_number l c.args.d (op2_number c.args.op c.args.ty (number_of c.args.ty (l.reg c.args.a)) (number_of t (l.reg c.args.b)))) c.ty_at-right.ensures))
+    c.stop_divided.ensures.lanes
+    ∙ (ap₂ (λ n f. each n (λ j l. cond (is_on c.binary_row.new.zero j) (with_stop l Divide) l) f) c.binary_row.ensures.fits.lanes_are c.binary_row.ensures.lanes
+    ∙ stopped_each c.args.frame.now c.args.m c.args.d c.args.a c.args.b c.args.op c.args.ty c.args.right (is_on c.live_lanes-live.result) (is_on c.binary_row.new.zero) c.live_lanes-live.ensures.lanes c.binary_row.ensures.zero)
