@@ -1,1 +1,5 @@
-mod Visited
+pub mod Each
+pub mod Fitting
+pub mod Visited
+pub mod Typed
+mod TypedUnits

@@ -13,6 +13,7 @@ ghost use Rattle.vk_rules_book.specs.Rules.{Subject, faults_at, faults_of};
 ghost use Rattle.vk_rules_book.specs.Scopes.{Scope, meaning_of};
 ghost use Rattle.vk_rules_book.specs.Signatures.{head_of, signature_of};
 ghost use Rattle.vk_rules_book.specs.Typings.{is_typed, takes_typed, typing_of};
+ghost use Rattle.vk_rules_laws.specs.GrammarTypes.{HasGrammarTypes};
 ghost use Rattle.vk_rules_book.specs.Visits.{Visit, called, directive, expression, unit_visits};
 
 /// No rule is broken at any visit.
@@ -26,6 +27,12 @@ pub fn names_are_declared()
         Contains (unit_visits unit.texts unit.items) (expression around scope r (name line token id)) → is_some (meaning_of scope id) ≡ true }
     ensures calls { (unit : Subject) → faults_of unit ≡ [] → (around : Around) (scope : Scope) (line token : ℕ) (id : NameId) (arguments : Trees) →
         Contains (unit_visits unit.texts unit.items) (called around scope line token id arguments) → is_some (meaning_of scope id) ≡ true }
+{}
+
+/// Each expression that is visited has a type, where the items have the types that the grammar gives.
+pub fn expressions_have_types()
+    ensures { (unit : Subject) → HasGrammarTypes unit.items → faults_of unit ≡ [] → (around : Around) (scope : Scope) (r : Role) (e : Tree) →
+        Contains (unit_visits unit.texts unit.items) (expression around scope r e) → is_typed (typing_of scope e) ≡ true }
 {}
 
 /// An expression that has a type has one that its place takes.
