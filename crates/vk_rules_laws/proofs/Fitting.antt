@@ -12,7 +12,7 @@ use Rattle.vk_rules_book.specs.declared.contexts.Binding.{Binding}
 use Rattle.vk_rules_book.specs.Scopes.{Scope, Meaning, a_variable, an_object, a_function, printer, is_print, same_name, declares, declared_meaning, first_declaration, file_scope, inner_or, last_binding, meaning_of, with_binding, with_param, with_params, inside}
 use Rattle.vk_rules_book.specs.Statements.{is_void}
 use Rattle.vk_rules_book.specs.Visits.{after, after_all, block_scope}
-use Rattle.vk_rules_laws.specs.GrammarTypes.{HasGrammarTypes, is_pointer_type}
+use Rattle.vk_rules_laws.specs.Grammatical.{HasGrammarTypes, is_pointer_type}
 use Rattle.vk_rules_laws.proofs.Each.{at_all, both}
 
 -- no void variable, no function that returns a pointer

@@ -19,7 +19,7 @@ use Rattle.vk_rules_book.specs.Rules.{Subject}
 use Rattle.vk_rules_book.specs.Scopes.{Scope, Meaning, a_variable, an_object, a_function, meaning_of}
 use Rattle.vk_rules_book.specs.Typings.{are_arguments, binary_typing, call_typing, choice_typing, element_typing, is_argument, is_callable, is_number, is_plus, is_pointer, is_sum, number_type, then_number, is_typed, left_role, name_typing, pointed_typing, result_typing, right_role, takes_typed, typing_of, typings_of, wanted_types, with_address, moves_left, moves_right}
 use Rattle.vk_rules_book.specs.Visits.{Visit, argument_visits, called, expression, is_zero, parts_of, visits_of, optional_visits, with_role}
-use Rattle.vk_rules_laws.specs.GrammarTypes.{is_pointer_type}
+use Rattle.vk_rules_laws.specs.Grammatical.{is_pointer_type}
 use Rattle.vk_rules_laws.proofs.Each.{IsQuiet, back, both, front}
 use Rattle.vk_rules_laws.proofs.Fitting.{AreFitting, IsFitting, meaning_fits}
 use Rattle.vk_rules_laws.proofs.Visited.{call_quiet, called_quiet, name_quiet, place_quiet, taken, typed_quiet}

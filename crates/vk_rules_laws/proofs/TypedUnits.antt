@@ -13,7 +13,7 @@ use Rattle.vk_rules_book.specs.declared.lists.Entry.{Entry}
 use Rattle.vk_rules_book.specs.Rules.{Subject, faults_of}
 use Rattle.vk_rules_book.specs.Scopes.{Scope, file_scope, inside, with_binding, with_param, with_params}
 use Rattle.vk_rules_book.specs.Visits.{Visit, after, all_visits, along, around_body, at_file_scope, block_scope, body_visits, clause_visits, directive_visits, entries_of, entry_visits, in_loop, initial_visits, initialiser_visits, item, item_visits, length_visits, optional_visits, parameter_visits, stmt_visits, unit_visits, visits_of}
-use Rattle.vk_rules_laws.specs.GrammarTypes.{HasGrammarTypes}
+use Rattle.vk_rules_laws.specs.Grammatical.{HasGrammarTypes}
 use Rattle.vk_rules_laws.proofs.Each.{IsQuiet, back, both, front, unit_quiet}
 use Rattle.vk_rules_laws.proofs.Fitting.{AreFitting, IsFittingItem, after_fits, block_fits, file_fits, inside_fits, items_fit, more_fits, params_fit}
 use Rattle.vk_rules_laws.proofs.Typed.{HasType, optional_typed, visits_typed}

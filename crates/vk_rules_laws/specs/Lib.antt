@@ -1,1 +1,1 @@
-pub mod GrammarTypes
+pub mod Grammatical

@@ -13,7 +13,7 @@ ghost use Rattle.vk_rules_book.specs.Rules.{Subject, faults_at, faults_of};
 ghost use Rattle.vk_rules_book.specs.Scopes.{Scope, meaning_of};
 ghost use Rattle.vk_rules_book.specs.Signatures.{head_of, signature_of};
 ghost use Rattle.vk_rules_book.specs.Typings.{is_typed, takes_typed, typing_of};
-ghost use Rattle.vk_rules_laws.specs.GrammarTypes.{HasGrammarTypes};
+ghost use Rattle.vk_rules_laws.specs.Grammatical.{HasGrammarTypes};
 ghost use Rattle.vk_rules_book.specs.Visits.{Visit, called, directive, expression, unit_visits};
 
 /// No rule is broken at any visit.
