@@ -3,3 +3,4 @@ pub mod Fitting
 pub mod Visited
 pub mod Typed
 mod TypedUnits
+pub mod Sizes

@@ -1,14 +1,16 @@
 // What holds of units that break no rule.
 
-ghost use Rattle.std.specs.Prelude.{◌≡◌, ◌≤◌, ℕ, List, [], ◌∷◌, Contains, Some, length, true, false, is_some};
+ghost use Rattle.std.specs.Prelude.{◌≡◌, ◌≤◌, ◌+◌, ℕ, List, [], ◌∷◌, Contains, Some, length, true, false, is_some};
 ghost use Rattle.vk_ast.specs.declared.names.NameId.{NameId};
 ghost use Rattle.vk_ast.specs.Directives.{DirectiveTree};
 ghost use Rattle.vk_ast.specs.Tree.{Tree, Trees, name};
-ghost use Rattle.vk_ast.specs.Units.{FunctionTree, ItemTree, function};
+ghost use Rattle.vk_ast.specs.Statements.{StmtTree};
+ghost use Rattle.vk_ast.specs.Units.{FunctionTree, ItemTree, function, function_nodes};
 ghost use Rattle.vk_rules_book.specs.declared.contexts.Around.{Around};
 ghost use Rattle.vk_rules_book.specs.declared.contexts.Role.{Role};
 ghost use Rattle.vk_rules_book.specs.Directives.{has_signature, is_no_width, repeats_a_name};
 ghost use Rattle.vk_rules_book.specs.Expressions.{is_simd, is_written_parameter, lets_written};
+ghost use Rattle.vk_rules_book.specs.Items.{costs, locals_of};
 ghost use Rattle.vk_rules_book.specs.Rules.{Subject, faults_at, faults_of};
 ghost use Rattle.vk_rules_book.specs.Scopes.{Scope, meaning_of};
 ghost use Rattle.vk_rules_book.specs.Signatures.{head_of, signature_of};
@@ -65,4 +67,17 @@ pub fn functions_fit()
     ensures parameters { (unit : Subject) → faults_of unit ≡ [] → (f : FunctionTree) → Contains unit.items (function f) → length f.params ≤ 64 }
     ensures directives { (unit : Subject) → faults_of unit ≡ [] → (f : FunctionTree) → Contains unit.items (function f) →
         (d : DirectiveTree) → Contains f.directives d → has_signature f d ≡ true }
+{}
+
+/// The sum over the functions that a unit declares of their nodes and those of their variants is at most 40000.
+pub fn costs_fit()
+    ensures { (unit : Subject) → faults_of unit ≡ [] → costs unit.texts unit.items [] unit.items ≤ 40000 }
+{}
+
+/// The definition of a function has at most 512 parameters and local variables, and at most 2000 nodes.
+pub fn definitions_fit()
+    ensures variables { (unit : Subject) → faults_of unit ≡ [] → (f : FunctionTree) → Contains unit.items (function f) →
+        (body : StmtTree) → f.body ≡ Some body → length f.params + locals_of body ≤ 512 }
+    ensures nodes { (unit : Subject) → faults_of unit ≡ [] → (f : FunctionTree) → Contains unit.items (function f) →
+        (body : StmtTree) → f.body ≡ Some body → function_nodes f ≤ 2000 }
 {}
