@@ -146,7 +146,8 @@ pub record IsTameProgram (units : List Subject) (lane : List ℕ → Bool) : Typ
   pub body : (text : List ℕ) (d : Definition) → IsLaneFunction units lane text d →
       IsTameStmt (λ id. lane (text_of d.unit.texts id)) (first_point d) d.body
   pub declared : (text : List ℕ) (d : Definition) → IsLaneFunction units lane text d →
-      (id : NameId) (f : Definition) → IsLaneFunction units lane (text_of d.unit.texts id) f →
+      (id : NameId) → is_function (file_meaning d.unit.texts d.items id) ≡ true →
+      (f : Definition) → IsLaneFunction units lane (text_of d.unit.texts id) f →
       wanted_types (file_meaning d.unit.texts d.items id) ≡ types_of f.function.params
 
 -- What these functions know as `const` objects are arrays that are `const`: so it is where the units link.

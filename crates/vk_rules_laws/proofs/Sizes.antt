@@ -1,5 +1,5 @@
 -- The sizes of a unit that breaks no rule.
-use Rattle.std.proofs.Common.{◌≡◌, ℕ, zero, suc, ◌+◌, ◌≤◌, Bool, true, false, ◌&&◌, ◌||◌, length, nat_le, nat_lt, List, [], ◌∷◌, ◌++◌, Contains, Option, Some, sym, ap, subst, ◌∙◌, arith}
+use Rattle.std.proofs.Common.{◌≡◌, ℕ, zero, suc, ◌+◌, ◌≤◌, Bool, true, false, ◌&&◌, ◌||◌, length, nat_le, nat_lt, List, [], ◌∷◌, ◌++◌, Contains, Option, Some, refl, sym, ap, subst, ◌∙◌, arith}
 use Rattle.std.specs.List.{AllByRecursion}
 use Rattle.std.proofs.lemmas.Bool.Decides.{nat_tests}
 use Rattle.std.proofs.lemmas.List.{append-nil, append_assoc}
@@ -17,9 +17,14 @@ use Rattle.vk_rules.proofs.Quiet.{quiet_left, quiet_right, when_not}
 
 -- what a function of a unit that breaks no rule keeps
 pub record IsQuietFunction (unit : Subject) (before : List ItemTree) (f : FunctionTree) : Type 0 where
+  pub print : (is_print unit.texts f.name && is_wrong_print f) ≡ false
   pub again : is_wrong_again before f.name (function f) ≡ false
   pub sum : passes unit.texts unit.items before (function f) ≡ false
   pub size : is_too_large f f.body ≡ false
+
+first_false : (a b : Bool) → (a || b) ≡ false → a ≡ false
+first_false true b e = e
+first_false false b e = refl
 
 pub quiet_function : (unit : Subject) (before : List ItemTree) (f : FunctionTree) → item_faults unit.texts unit.items before (function f) ≡ [] → IsQuietFunction unit before f
 unfolding item_faults
@@ -33,6 +38,8 @@ quiet_function unit before f e =
     let rest2 = quiet_right again (long ++ (sum ++ size)) rest1 in
     let rest3 = quiet_right long (sum ++ size) rest2 in
     record {
+      print = first_false (is_print unit.texts f.name && is_wrong_print f) (is_main unit.texts f.name && is_wrong_main f)
+          (when_not ((is_print unit.texts f.name && is_wrong_print f) || (is_main unit.texts f.name && is_wrong_main f)) (fault_at f.line f.token C8) (quiet_left own (again ++ (long ++ (sum ++ size))) e));
       again = when_not (is_wrong_again before f.name (function f)) (fault_at f.line f.token C13) (quiet_left again (long ++ (sum ++ size)) rest1);
       sum = when_not (passes unit.texts unit.items before (function f)) (fault_at f.line f.token C17) (quiet_left sum size rest3);
       size = when_not (is_too_large f f.body) (fault_at f.line f.token C18) (quiet_right sum size rest3);

@@ -160,17 +160,17 @@ module _ (unit : Subject) (around : Around) (scope : Scope) (fits : AreFitting s
   abbrev HaveTypes : List Visit → Type 0
   HaveTypes vs = AllByRecursion HasType vs
 
-  own_of : (r : Role) (e : Tree) (vs : List Visit) → AreQuiet (with_role around scope r e vs) → expression_faults unit.texts around scope r e ≡ []
+  pub own_of : (r : Role) (e : Tree) (vs : List Visit) → AreQuiet (with_role around scope r e vs) → expression_faults unit.texts around scope r e ≡ []
   own_of r e vs q = (back (IsQuiet unit) vs (expression around scope r e ∷ []) q).0
 
-  type_of : (r : Role) (e : Tree) (vs : List Visit) → HaveTypes (with_role around scope r e vs) → is_typed (typing_of scope e) ≡ true
+  pub type_of : (r : Role) (e : Tree) (vs : List Visit) → HaveTypes (with_role around scope r e vs) → is_typed (typing_of scope e) ≡ true
   type_of r e vs t = (back HasType vs (expression around scope r e ∷ []) t).0
 
-  taken_by : (r : Role) (e : Tree) → expression_faults unit.texts around scope r e ≡ [] → is_typed (typing_of scope e) ≡ true → takes_typed r (typing_of scope e) ≡ true
+  pub taken_by : (r : Role) (e : Tree) → expression_faults unit.texts around scope r e ≡ [] → is_typed (typing_of scope e) ≡ true → takes_typed r (typing_of scope e) ≡ true
   taken_by r e own typed = taken (is_typed (typing_of scope e)) (takes_typed r (typing_of scope e)) (typed_quiet unit.texts around scope r e own) typed
 
   -- what holds a part in this role takes its type
-  takes_of : (r : Role) (e : Tree) (vs : List Visit) → AreQuiet (with_role around scope r e vs) → HaveTypes (with_role around scope r e vs)
+  pub takes_of : (r : Role) (e : Tree) (vs : List Visit) → AreQuiet (with_role around scope r e vs) → HaveTypes (with_role around scope r e vs)
       → takes_typed r (typing_of scope e) ≡ true
   takes_of r e vs q t = taken_by r e (own_of r e vs q) (type_of r e vs t)
 
@@ -195,7 +195,7 @@ module _ (unit : Subject) (around : Around) (scope : Scope) (fits : AreFitting s
       (arguments_fit ws es (back (IsQuiet unit) here more q) (back HasType here more t))
 
   -- an expression has a type where its parts have one
-  typed_here : (addressed : Bool) (e : Tree) (r : Role) → AreQuiet (parts_of around scope addressed e) → HaveTypes (parts_of around scope addressed e)
+  pub typed_here : (addressed : Bool) (e : Tree) (r : Role) → AreQuiet (parts_of around scope addressed e) → HaveTypes (parts_of around scope addressed e)
       → expression_faults unit.texts around scope r e ≡ [] → is_typed (typing_of scope e) ≡ true
   typed_here addressed (int l k ty n) r q t own = refl
   typed_here addressed (name l k id) r q t own = name_typed (meaning_of scope id) (meaning_fits scope id fits) (name_quiet unit.texts around scope r l k id own).0
@@ -258,7 +258,7 @@ module _ (unit : Subject) (around : Around) (scope : Scope) (fits : AreFitting s
       both HasType parts last ts (typed_here addressed e r qs ts (own_of r e parts q), tt)
 
   mutual
-    parts_typed : (addressed : Bool) (e : Tree) → AreQuiet (parts_of around scope addressed e) → HaveTypes (parts_of around scope addressed e)
+    pub parts_typed : (addressed : Bool) (e : Tree) → AreQuiet (parts_of around scope addressed e) → HaveTypes (parts_of around scope addressed e)
     parts_typed addressed (int l k t n) q = tt
     parts_typed addressed (name l k id) q = tt
     parts_typed addressed (index l k b s) q =
@@ -294,7 +294,7 @@ module _ (unit : Subject) (around : Around) (scope : Scope) (fits : AreFitting s
         let last = called around scope l k id es ∷ [] in
         both HasType parts last (arguments_typed (wanted_types (meaning_of scope id)) es (front (IsQuiet unit) parts last q)) (tt, tt)
 
-    arguments_typed : (wanted : List CType) (es : Trees) → AreQuiet (argument_visits around scope wanted es) → HaveTypes (argument_visits around scope wanted es)
+    pub arguments_typed : (wanted : List CType) (es : Trees) → AreQuiet (argument_visits around scope wanted es) → HaveTypes (argument_visits around scope wanted es)
     arguments_typed wanted no_trees q = tt
     arguments_typed [] (more_trees e es) q =
         let here = with_role around scope (role.Argument None) e (parts_of around scope false e) in
