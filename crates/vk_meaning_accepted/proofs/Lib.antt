@@ -1,0 +1,2 @@
+mod LaneScopes
+mod Tame
