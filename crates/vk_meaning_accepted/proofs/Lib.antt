@@ -1,2 +1,3 @@
 mod LaneScopes
 mod Tame
+mod Expressions

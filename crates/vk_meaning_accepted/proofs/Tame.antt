@@ -31,40 +31,40 @@ use Rattle.vk_meaning_accepted.proofs.LaneScopes.{IsFileMeaning, IsLaneScope, Is
 
 -- ---- tests
 
-second_false : (a b : Bool) → a ≡ true → (a && b) ≡ false → b ≡ false
+pub second_false : (a b : Bool) → a ≡ true → (a && b) ≡ false → b ≡ false
 second_false true b h e = e
 second_false false b h e = cc
 
-held : (a b : Bool) → (a && not b) ≡ false → a ≡ true → b ≡ true
+pub held : (a b : Bool) → (a && not b) ≡ false → a ≡ true → b ≡ true
 held true true e h = refl
 held true false e h = cc
 held false b e h = cc
 
-dropped : (a b : Bool) → (a && not b) ≡ false → b ≡ false → a ≡ false
+pub dropped : (a b : Bool) → (a && not b) ≡ false → b ≡ false → a ≡ false
 dropped true b e h = cc
 dropped false b e h = refl
 
-right_true : (a b : Bool) → (a && b) ≡ true → b ≡ true
+pub right_true : (a b : Bool) → (a && b) ≡ true → b ≡ true
 right_true true b e = e
 right_true false b e = cc
 
-still_true : (b : Bool) → not b ≡ false → b ≡ true
+pub still_true : (b : Bool) → not b ≡ false → b ≡ true
 still_true true e = refl
 still_true false e = cc
 
-both_false : (a b : Bool) → not (a && b) ≡ false → (a ≡ true) × (b ≡ true)
+pub both_false : (a b : Bool) → not (a && b) ≡ false → (a ≡ true) × (b ≡ true)
 both_false true true e = (refl, refl)
 both_false true false e = cc
 both_false false b e = cc
 
-not_both : (b : Bool) → b ≡ false → b ≡ true → ⊥
+pub not_both : (b : Bool) → b ≡ false → b ≡ true → ⊥
 not_both b e h = cc
 
-decide : (b : Bool) → (b ≡ true) ⊎ (b ≡ false)
+pub decide : (b : Bool) → (b ≡ true) ⊎ (b ≡ false)
 decide true = inl refl
 decide false = inr refl
 
-zero_is : (e : Tree) → is_zero e ≡ true → IsZero e
+pub zero_is : (e : Tree) → is_zero e ≡ true → IsZero e
 zero_is (int l k t n) h = grind (arith, nat_tests)
 zero_is (name l k id) h = cc
 zero_is (index l k b s) h = cc
@@ -87,7 +87,7 @@ is_written_cell (Cell t written) = written
 is_written_cell _ = false
 
 -- the variable that is a written pointer is a written parameter in the scope
-written_seen : (lane : Bool) (v : Option Numbered) (m : Option Meaning) → IsSeen lane v m → is_written_variable v ≡ true → is_written_parameter m ≡ true
+pub written_seen : (lane : Bool) (v : Option Numbered) (m : Option Meaning) → IsSeen lane v m → is_written_variable v ≡ true → is_written_parameter m ≡ true
 written_seen lane None m s h = cc
 written_seen lane (Some v) None s h = absurd s
 written_seen lane (Some v) (Some (an_object t is_array fixed)) s h = absurd s
@@ -99,7 +99,7 @@ written_seen lane (Some v) (Some (a_variable t fixed)) s h = of_type t (subst (�
   of_type (Int t) h = h
   of_type (Ptr to written) h = h
 
-tame_name : (lane : Bool) (v : Option Numbered) (m : Option Meaning) → IsSeen lane v m → is_changing m ≡ false → is_written_variable v ≡ false → IsTameName v m
+pub tame_name : (lane : Bool) (v : Option Numbered) (m : Option Meaning) → IsSeen lane v m → is_changing m ≡ false → is_written_variable v ≡ false → IsTameName v m
 tame_name lane (Some v) m s still plain = plain
 tame_name lane None None s still plain = refl
 tame_name lane None (Some (a_variable t fixed)) s still plain = refl
@@ -107,7 +107,7 @@ tame_name lane None (Some (an_object t is_array fixed)) s still plain = still_tr
 tame_name lane None (Some (a_function r ps is_simd)) s still plain = refl
 
 -- what is typed as a written pointer is the name of one
-written_name : (lane : Bool) (v : Option Numbered) (m : Option Meaning) → IsSeen lane v m → is_changing m ≡ false → is_written_pointer (name_typing m) ≡ true → is_written_variable v ≡ true
+pub written_name : (lane : Bool) (v : Option Numbered) (m : Option Meaning) → IsSeen lane v m → is_changing m ≡ false → is_written_pointer (name_typing m) ≡ true → is_written_variable v ≡ true
 written_name lane v None s still h = cc
 written_name lane None (Some (a_variable t fixed)) s still h = absurd s
 written_name lane (Some v) (Some (a_variable t fixed)) s still h = subst (λ (u : CType). is_written_type u ≡ true) (sym s) (of_type t h)
@@ -122,7 +122,7 @@ written_name lane v (Some (an_object t false fixed)) s still h = cc
 written_name lane v (Some (a_function r ps is_simd)) s still h = cc
 
 -- an object that may be assigned is changing
-name_cell : (m : Option Meaning) → is_changing m ≡ false → is_written_cell (name_typing m) ≡ false
+pub name_cell : (m : Option Meaning) → is_changing m ≡ false → is_written_cell (name_typing m) ≡ false
 name_cell None still = refl
 name_cell (Some (a_variable Void fixed)) still = refl
 name_cell (Some (a_variable (Int t) fixed)) still = refl
@@ -131,7 +131,7 @@ name_cell (Some (an_object t true fixed)) still = refl
 name_cell (Some (an_object t false fixed)) still = still
 name_cell (Some (a_function r ps is_simd)) still = refl
 
-const_name : (m : Option Meaning) → is_changing m ≡ false → is_typed (name_typing m) ≡ true → may_have_address (name_typing m) ≡ true → is_const_object m ≡ true
+pub const_name : (m : Option Meaning) → is_changing m ≡ false → is_typed (name_typing m) ≡ true → may_have_address (name_typing m) ≡ true → is_const_object m ≡ true
 const_name None still typed h = cc
 const_name (Some (a_variable Void fixed)) still typed h = cc
 const_name (Some (a_variable (Int t) fixed)) still typed h = cc
@@ -141,7 +141,7 @@ const_name (Some (an_object t false fixed)) still typed h = still_true fixed sti
 const_name (Some (a_function r ps is_simd)) still typed h = cc
 
 -- a name that is no variable may not be assigned
-no_target : (lane : Bool) (m : Option Meaning) → IsFileMeaning lane m → is_changing m ≡ false → is_typed (name_typing m) ≡ true → may_be_assigned (name_typing m) ≡ true → ⊥
+pub no_target : (lane : Bool) (m : Option Meaning) → IsFileMeaning lane m → is_changing m ≡ false → is_typed (name_typing m) ≡ true → may_be_assigned (name_typing m) ≡ true → ⊥
 no_target lane None s still typed h = cc
 no_target lane (Some (a_variable t fixed)) s still typed h = s
 no_target lane (Some (an_object t true fixed)) s still typed h = cc
@@ -151,11 +151,11 @@ no_target lane (Some (a_function r ps is_simd)) s still typed h = cc
 
 -- ---- types
 
-no_number : (o : Option Ty) (f : Ty → Ty) → is_written_pointer (then_number o (λ t. Number (f t))) ≡ false
+pub no_number : (o : Option Ty) (f : Ty → Ty) → is_written_pointer (then_number o (λ t. Number (f t))) ≡ false
 no_number None f = refl
 no_number (Some t) f = refl
 
-no_element : (b s : Typing) → is_written_pointer (element_typing b s) ≡ false
+pub no_element : (b s : Typing) → is_written_pointer (element_typing b s) ≡ false
 no_element (Pointer to written) s = of_number (number_type s)
   where
   of_number : (o : Option Ty) → is_written_pointer (then_number o (λ t. Cell to written)) ≡ false
@@ -168,7 +168,7 @@ no_element Nothing s = refl
 no_element Function s = refl
 no_element Untyped s = refl
 
-no_pointed : (t : Typing) → is_written_pointer (pointed_typing t) ≡ false
+pub no_pointed : (t : Typing) → is_written_pointer (pointed_typing t) ≡ false
 no_pointed (Pointer to written) = refl
 no_pointed (Number t) = refl
 no_pointed (Variable t fixed) = refl
@@ -177,7 +177,7 @@ no_pointed Nothing = refl
 no_pointed Function = refl
 no_pointed Untyped = refl
 
-no_choice : (c s t : Typing) → is_written_pointer (choice_typing c s t) ≡ false
+pub no_choice : (c s t : Typing) → is_written_pointer (choice_typing c s t) ≡ false
 unfolding choice_typing
 no_choice c s t = of_three (number_type c) (number_type s) (number_type t)
   where
@@ -187,7 +187,7 @@ no_choice c s t = of_three (number_type c) (number_type s) (number_type t)
   of_three (Some c) (Some s) None = refl
   of_three (Some c) (Some s) (Some t) = refl
 
-no_call : (m : Option Meaning) (ts : List Typing) → is_written_pointer (call_typing m ts) ≡ false
+pub no_call : (m : Option Meaning) (ts : List Typing) → is_written_pointer (call_typing m ts) ≡ false
 no_call m ts = of_test (are_arguments (wanted_types m) ts && is_callable m (length ts))
   where
   of_result : (m : Option Meaning) → is_written_pointer (called_typing m) ≡ false
@@ -202,7 +202,7 @@ no_call m ts = of_test (are_arguments (wanted_types m) ts && is_callable m (leng
   of_test false = refl
 
 -- a sum is a written pointer only where one of its operands is
-written_sum : (op : BinOp) (s t : Typing) → is_written_pointer (binary_typing op s t) ≡ true → (is_written_pointer s ≡ true) ⊎ (is_written_pointer t ≡ true)
+pub written_sum : (op : BinOp) (s t : Typing) → is_written_pointer (binary_typing op s t) ≡ true → (is_written_pointer s ≡ true) ⊎ (is_written_pointer t ≡ true)
 written_sum op s t = of_tests (moves_left op s) (moves_right op s t) (number_type s) (number_type t)
   where
   of_tests : (a b : Bool) (m n : Option Ty)
@@ -216,7 +216,7 @@ written_sum op s t = of_tests (moves_left op s) (moves_right op s t) (number_typ
   of_tests false false (Some m) None h = cc
   of_tests false false None n h = cc
 
-written_address : (t : Typing) → is_written_pointer (with_address t) ≡ true → is_written_cell t ≡ true
+pub written_address : (t : Typing) → is_written_pointer (with_address t) ≡ true → is_written_cell t ≡ true
 written_address (Cell t written) h = h
 written_address (Number t) h = cc
 written_address (Variable t fixed) h = cc
@@ -225,7 +225,7 @@ written_address Nothing h = cc
 written_address Function h = cc
 written_address Untyped h = cc
 
-written_pointed : (t : Typing) → is_written_cell (pointed_typing t) ≡ true → is_written_pointer t ≡ true
+pub written_pointed : (t : Typing) → is_written_cell (pointed_typing t) ≡ true → is_written_pointer t ≡ true
 written_pointed (Pointer to written) h = h
 written_pointed (Number t) h = cc
 written_pointed (Variable t fixed) h = cc
@@ -234,7 +234,7 @@ written_pointed Nothing h = cc
 written_pointed Function h = cc
 written_pointed Untyped h = cc
 
-written_element : (b s : Typing) → is_written_cell (element_typing b s) ≡ true → is_written_pointer b ≡ true
+pub written_element : (b s : Typing) → is_written_cell (element_typing b s) ≡ true → is_written_pointer b ≡ true
 written_element (Pointer to written) s h = of_number (number_type s) h
   where
   of_number : (o : Option Ty) → is_written_cell (then_number o (λ t. Cell to written)) ≡ true → written ≡ true
@@ -247,7 +247,7 @@ written_element Nothing s h = cc
 written_element Function s h = cc
 written_element Untyped s h = cc
 
-written_argument : (to : Ty) (t : Typing) → is_pointer_to to true t ≡ true → is_written_pointer t ≡ true
+pub written_argument : (to : Ty) (t : Typing) → is_pointer_to to true t ≡ true → is_written_pointer t ≡ true
 written_argument to (Pointer to' written) h = right_true (same_type to to') written h
 written_argument to (Number t) h = cc
 written_argument to (Variable t fixed) h = cc
@@ -258,28 +258,28 @@ written_argument to Untyped h = cc
 
 -- ---- roles
 
-left_plain : (op : BinOp) (s t : Typing) → lets_written (left_role op s t) ≡ false
+pub left_plain : (op : BinOp) (s t : Typing) → lets_written (left_role op s t) ≡ false
 left_plain op s t = of_test (moves_left op s)
   where
   of_test : (b : Bool) → lets_written (cond b role.Added role.Value) ≡ false
   of_test true = refl
   of_test false = refl
 
-right_plain : (op : BinOp) (s t : Typing) → lets_written (right_role op s t) ≡ false
+pub right_plain : (op : BinOp) (s t : Typing) → lets_written (right_role op s t) ≡ false
 right_plain op s t = of_test (moves_right op s t)
   where
   of_test : (b : Bool) → lets_written (cond b role.Added role.Value) ≡ false
   of_test true = refl
   of_test false = refl
 
-argument_plain : (w : CType) → is_written_type w ≡ false → lets_written (role.Argument (Some w)) ≡ false
+pub argument_plain : (w : CType) → is_written_type w ≡ false → lets_written (role.Argument (Some w)) ≡ false
 argument_plain Void h = refl
 argument_plain (Int t) h = refl
 argument_plain (Ptr to written) h = h
 
 -- ---- calls
 
-tame_callee : (lane : Bool) (v : Option Numbered) (m : Option Meaning) (ts : List Typing) → IsSeen lane v m → is_plain_function m ≡ false → is_typed (call_typing m ts) ≡ true
+pub tame_callee : (lane : Bool) (v : Option Numbered) (m : Option Meaning) (ts : List Typing) → IsSeen lane v m → is_plain_function m ≡ false → is_typed (call_typing m ts) ≡ true
     → (lane ≡ true) × (is_function m ≡ true)
 tame_callee lane v m ts s plain typed = of_meaning v m s plain (called_typed (are_arguments (wanted_types m) ts && is_callable m (length ts)) m typed)
   where
@@ -293,3 +293,28 @@ tame_callee lane v m ts s plain typed = of_meaning v m s plain (called_typed (ar
   of_meaning (Some v) (Some (a_function r ps is_simd)) s plain h = absurd s
   of_meaning None (Some (a_function r ps true)) s plain h = (s, refl)
   of_meaning None (Some (a_function r ps false)) s plain h = cc
+
+-- ---- places that may be assigned
+
+pub cell_pointed : (t : Typing) → is_typed (pointed_typing t) ≡ true → may_be_assigned (pointed_typing t) ≡ true → is_written_cell (pointed_typing t) ≡ true
+cell_pointed (Pointer to written) typed h = h
+cell_pointed (Number t) typed h = cc
+cell_pointed (Variable t fixed) typed h = cc
+cell_pointed (Cell t written) typed h = cc
+cell_pointed Nothing typed h = cc
+cell_pointed Function typed h = cc
+cell_pointed Untyped typed h = cc
+
+pub cell_element : (b s : Typing) → is_typed (element_typing b s) ≡ true → may_be_assigned (element_typing b s) ≡ true → is_written_cell (element_typing b s) ≡ true
+cell_element (Pointer to written) s typed h = of_number (number_type s) typed h
+  where
+  of_number : (o : Option Ty) → is_typed (then_number o (λ t. Cell to written)) ≡ true → may_be_assigned (then_number o (λ t. Cell to written)) ≡ true
+      → is_written_cell (then_number o (λ t. Cell to written)) ≡ true
+  of_number None typed h = cc
+  of_number (Some t) typed h = h
+cell_element (Number t) s typed h = cc
+cell_element (Variable t fixed) s typed h = cc
+cell_element (Cell t written) s typed h = cc
+cell_element Nothing s typed h = cc
+cell_element Function s typed h = cc
+cell_element Untyped s typed h = cc
