@@ -1,3 +1,4 @@
 mod LaneScopes
 mod Tame
 mod Expressions
+mod Statements
