@@ -1,6 +1,5 @@
 -- Expressions in the body of a function with directives are tame: the recursion over the trees.
-use Rattle.std.proofs.Common.{◌≡◌, ◌⊎◌, inl, inr, Bool, true, false, ◌&&◌, not, ℕ, List, [], ◌∷◌, ◌++◌, Option, Some, None, refl, sym, subst, ◌∙◌}
-use Rattle.std.proofs.lemmas.Bool.{false≢true}
+use Rattle.std.proofs.Common.{◌≡◌, ◌⊎◌, inl, inr, Bool, true, false, ◌&&◌, not, ℕ, List, [], ◌∷◌, ◌++◌, Option, Some, None, refl, sym, ◌∙◌}
 use Rattle.std.specs.List.{AllByRecursion}
 use Rattle.vk_kinds.specs.declared.heads.CType.{CType}
 use Rattle.vk_kinds.specs.declared.heads.CType.TheVariants.{Void, Int, Ptr}
@@ -10,20 +9,20 @@ use Rattle.vk_numbers.specs.Types.{unary_type}
 use Rattle.vk_rules_book.specs.declared.contexts.Around.{Around}
 use Rattle.vk_rules_book.specs.declared.contexts.Role.{Role}
 use Rattle.vk_rules_book.specs.declared.contexts.Role.TheVariants as role
-use Rattle.vk_rules_book.specs.Expressions.{expression_faults, has_form_of_place, is_changing, is_free_pointer, is_plain_function, is_simd, is_written_parameter, lets_written, may_be_assigned, may_have_address}
+use Rattle.vk_rules_book.specs.Expressions.{expression_faults, is_changing, is_free_pointer, is_plain_function, is_simd, is_written_parameter, lets_written, may_be_assigned, may_have_address}
 use Rattle.vk_rules_book.specs.Rules.{Subject}
 use Rattle.vk_rules_book.specs.Scopes.{Scope, meaning_of}
 use Rattle.vk_rules_book.specs.Typings.{is_typed, left_role, number_type, right_role, typing_of, typings_of, wanted_types}
 use Rattle.vk_rules_book.specs.Visits.{Visit, argument_visits, called, expression, is_zero, optional_visits, parts_of, visits_of, with_role}
-use Rattle.vk_rules_laws.proofs.Each.{IsQuiet, back, both, front}
+use Rattle.vk_rules_laws.proofs.Each.{IsQuiet, back, front}
 use Rattle.vk_rules_laws.proofs.Typed.{own_of, parts_typed, taken_by, typed_here}
 use Rattle.vk_rules_laws.proofs.Visited.{name_quiet, object_quiet, place_quiet, plain_quiet}
 use Rattle.vk_meaning.specs.Points.{Variable, variable_named}
 use Rattle.vk_meaning.specs.Statements.{variable_of}
-use Rattle.vk_meaning.specs.Types.{is_written_type, next_type}
-use Rattle.vk_meaning_laws.specs.Tame.{AreTame, IsTame, IsTameArgument, IsTameOptional, IsTamePlace, IsTameTarget, IsWrittenElement, IsZero, is_const_object, is_written_name, is_written_variable}
+use Rattle.vk_meaning.specs.Types.{is_written_type}
+use Rattle.vk_meaning_laws.specs.Tame.{AreTame, IsTame, IsTameArgument, IsTameOptional, IsTamePlace, IsTameTarget, is_written_name, is_written_variable}
 use Rattle.vk_meaning_accepted.proofs.LaneScopes.{IsLaneScope, IsSeen, seen}
-use Rattle.vk_meaning_accepted.proofs.Tame.{argument_plain, both_false, const_name, decide, dropped, held, is_written_cell, is_written_pointer, left_plain, name_cell, no_call, no_choice, no_element, no_number, no_pointed, no_target, not_both, right_plain, right_true, second_false, tame_callee, tame_name, written_address, written_argument, written_element, written_name, written_pointed, written_seen, written_sum, zero_is, cell_element, cell_pointed}
+use Rattle.vk_meaning_accepted.proofs.Tame.{both_false, const_name, decide, held, is_written_cell, is_written_pointer, left_plain, name_cell, no_call, no_choice, no_element, no_number, no_pointed, no_target, not_both, right_plain, right_true, second_false, tame_callee, tame_name, written_address, written_argument, written_element, written_name, written_pointed, written_seen, written_sum, zero_is, cell_element, cell_pointed}
 
 module _ (unit : Subject) (around : Around) (simd : is_simd around ≡ true) (lane : NameId → Bool) (scope : Scope) (l : IsLaneScope lane scope) where
   abbrev AreQuiet : List Visit → Type 0
@@ -120,7 +119,7 @@ module _ (unit : Subject) (around : Around) (simd : is_simd around ≡ true) (la
         let oo = own_of unit around scope l.fits ro o in_o q in
         plain_of (is_written_cell (typing_of scope (deref k n o))) (λ h.
         absurd (not_written ro o oo refl (only_name false o ro (front (IsQuiet unit) in_o (expression around scope ro o ∷ []) q) oo (written_pointed (typing_of scope o) h))))
-    no_cell (int k n t v) q own = cc (place_quiet unit.texts around scope role.Address (int k n t v) own)
+    no_cell (int k n t v) q own = refl
     no_cell (addr k n o) q own = cc (place_quiet unit.texts around scope role.Address (addr k n o) own)
     no_cell (unary k n op o) q own = cc (place_quiet unit.texts around scope role.Address (unary k n op o) own)
     no_cell (binary k n op a b) q own = cc (place_quiet unit.texts around scope role.Address (binary k n op a b) own)
@@ -209,8 +208,8 @@ module _ (unit : Subject) (around : Around) (simd : is_simd around ≡ true) (la
         let last = called around scope k n id es ∷ [] in
         let quiet = (back (IsQuiet unit) parts last q).0 in
         let callee = tame_callee (lane id) (variable_named scope id) (meaning_of scope id) (typings_of scope es) (seen lane scope id l)
-            (second_false (is_simd around) (is_plain_function (meaning_of scope id)) simd (plain_quiet unit.texts around scope k n id es quiet))
-            (typed addressed (call k n id es) r q own) in
+        (second_false (is_simd around) (is_plain_function (meaning_of scope id)) simd (plain_quiet unit.texts around scope k n id es quiet))
+        (typed addressed (call k n id es) r q own) in
         (callee.0, callee.1, tame_arguments (wanted_types (meaning_of scope id)) es (front (IsQuiet unit) parts last q))
 
     tame_place : (e : Tree) → AreQuiet (parts_of around scope true e) → IsOwn role.Address e → IsTamePlace lane scope e
@@ -265,15 +264,15 @@ module _ (unit : Subject) (around : Around) (simd : is_simd around ≡ true) (la
       let form = both_false true (may_be_assigned (typing_of scope (name k n id))) (place_quiet unit.texts around scope role.Place (name k n id) own) in
       of_variable (variable_named scope id) (seen lane scope id l) form.1 (plain role.Place (name k n id) own refl)
     where
-    of_variable : (v : Option Variable) → IsSeen (lane id) v (meaning_of scope id) → may_be_assigned (typing_of scope (name k n id)) ≡ true → is_written_variable v ≡ false
-        → IsTameTarget lane scope (name k n id) v
-    of_variable None s form named = no_target (lane id) (meaning_of scope id) s (still role.Place k n id own) (typed false (name k n id) role.Place q own) form
-    of_variable (Some v) s form named = named
+      of_variable : (v : Option Variable) → IsSeen (lane id) v (meaning_of scope id) → may_be_assigned (typing_of scope (name k n id)) ≡ true → is_written_variable v ≡ false
+          → IsTameTarget lane scope (name k n id) v
+      of_variable None s form named = no_target (lane id) (meaning_of scope id) s (still role.Place k n id own) (typed false (name k n id) role.Place q own) form
+      of_variable (Some v) s form named = named
   target (index k n b s) q own =
       let form = both_false true (may_be_assigned (typing_of scope (index k n b s))) (place_quiet unit.texts around scope role.Place (index k n b s) own) in
       let vb = with_role around scope (role.Base (is_zero s)) b (parts_of around scope false b) in
       let w = is_element (is_zero s) b (front (IsQuiet unit) vb (with_role around scope role.Value s (parts_of around scope false s)) q)
-          (written_element (typing_of scope b) (typing_of scope s) (cell_element (typing_of scope b) (typing_of scope s) (typed false (index k n b s) role.Place q own) form.1)) in
+      (written_element (typing_of scope b) (typing_of scope s) (cell_element (typing_of scope b) (typing_of scope s) (typed false (index k n b s) role.Place q own) form.1)) in
       (w.0, zero_is s w.1)
   target (deref k n o) q own =
       let form = both_false true (may_be_assigned (typing_of scope (deref k n o))) (place_quiet unit.texts around scope role.Place (deref k n o) own) in

@@ -1,15 +1,14 @@
 -- What names mean in the body of a function with directives.
-use Rattle.std.proofs.Common.{◌≡◌, ℕ, ◌+◌, ◌&&◌, Bool, true, false, cond, not, List, [], ◌∷◌, Option, Some, None, refl, sym, ap, subst, ◌∙◌}
+use Rattle.std.proofs.Common.{◌≡◌, ℕ, ◌+◌, Bool, true, false, cond, List, [], ◌∷◌, Option, Some, None, refl}
 use Rattle.std.specs.Option.{option_or}
 use Rattle.vk_types.specs.declared.types.Ty.{Ty}
-use Rattle.vk_kinds.specs.declared.heads.CType.{CType}
-use Rattle.vk_kinds.specs.declared.heads.CType.TheVariants.{Void, Int, Ptr}
+use Rattle.vk_kinds.specs.declared.heads.CType.TheVariants.{Int}
 use Rattle.vk_ast.specs.declared.names.NameId.{NameId}
 use Rattle.vk_ast.specs.Statements.{StmtTree, StmtTrees, empty, block, local, assign, value, if_only, if_else, while_loop, do_loop, for_loop, break_loop, continue_loop, return_value, simd, lost, no_stmts, more_stmts}
 use Rattle.vk_rules_book.specs.declared.contexts.Binding.{Binding}
-use Rattle.vk_rules_book.specs.Scopes.{Scope, Meaning, a_variable, an_object, a_function, same_name, inner_or, last_binding, meaning_of, with_binding, inside}
+use Rattle.vk_rules_book.specs.Scopes.{Scope, Meaning, a_variable, a_function, same_name, inner_or, last_binding, meaning_of, with_binding, inside}
 use Rattle.vk_rules_book.specs.Visits.{after, after_all, block_scope}
-use Rattle.vk_rules_laws.proofs.Fitting.{AreFitting, block_fits, inside_fits, more_fits}
+use Rattle.vk_rules_laws.proofs.Fitting.{AreFitting, inside_fits, more_fits}
 use Rattle.vk_meaning.specs.Points.{Variable, variable_among, variable_named}
 
 -- What a name means at file scope: no variable; and a function with directives is a function of which `lane` holds.

@@ -2,3 +2,5 @@ mod LaneScopes
 mod Tame
 mod Expressions
 mod Statements
+mod Definitions
+mod Programs

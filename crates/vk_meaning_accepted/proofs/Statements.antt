@@ -1,25 +1,22 @@
 -- Statements in the body of a function with directives are tame.
-use Rattle.std.proofs.Common.{◌≡◌, ℕ, ◌+◌, Bool, true, false, List, [], ◌∷◌, ◌++◌, Option, Some, None, refl}
+use Rattle.std.proofs.Common.{◌≡◌, ℕ, ◌+◌, Bool, true, false, List, [], ◌++◌, refl}
 use Rattle.std.specs.List.{AllByRecursion}
-use Rattle.vk_types.specs.declared.types.Ty.{Ty}
 use Rattle.vk_kinds.specs.declared.heads.CType.TheVariants.{Int}
 use Rattle.vk_ast.specs.declared.names.NameId.{NameId}
 use Rattle.vk_ast.specs.Directives.{DirectiveTree}
-use Rattle.vk_ast.specs.Tree.{Tree}
 use Rattle.vk_ast.specs.Statements.{StmtTree, StmtTrees, empty, block, local, assign, value, if_only, if_else, while_loop, do_loop, for_loop, break_loop, continue_loop, return_value, simd, lost, no_stmts, more_stmts}
 use Rattle.vk_unit_rules.specs.declared.rules.UnitRule.TheVariants.{D15}
 use Rattle.vk_rules_book.specs.declared.contexts.Around.{Around}
 use Rattle.vk_rules_book.specs.declared.contexts.Role.TheVariants as role
-use Rattle.vk_rules_book.specs.declared.faults.Fault.{Fault}
 use Rattle.vk_rules_book.specs.Expressions.{is_simd}
-use Rattle.vk_rules_book.specs.Faults.{fault_with, when}
+use Rattle.vk_rules_book.specs.Faults.{fault_with}
 use Rattle.vk_rules_book.specs.Rules.{Subject}
 use Rattle.vk_rules_book.specs.Scopes.{Scope, inside, with_binding}
 use Rattle.vk_rules_book.specs.Statements.{statement_faults}
 use Rattle.vk_rules_book.specs.Visits.{Visit, after, all_visits, block_scope, in_loop, optional_visits, stmt_visits, visits_of}
 use Rattle.vk_rules.proofs.Quiet.{when_not}
 use Rattle.vk_rules_laws.proofs.Each.{IsQuiet, back, front}
-use Rattle.vk_meaning.specs.Points.{Point, behind, block_point, branch_point, head_point, loops_in, past}
+use Rattle.vk_meaning.specs.Points.{Point, behind, branch_point, head_point, loops_in, past}
 use Rattle.vk_meaning_laws.specs.Tame.{AreTameStmts, IsTameStmt}
 use Rattle.vk_meaning_accepted.proofs.LaneScopes.{IsLaneScope, after_lane, block_lane, inside_lane, more_lane}
 use Rattle.vk_meaning_accepted.proofs.Expressions.{optional_tame, target_tame, visits_tame}

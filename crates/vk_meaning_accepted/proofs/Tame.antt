@@ -1,33 +1,24 @@
 -- Expressions in the body of a function with directives are tame.
 use Rattle.std.proofs.lemmas.Bool.Decides.{nat_tests}
-use Rattle.std.proofs.Common.{arith, length, ◌≡◌, ◌⊎◌, inl, inr, ℕ, ◌+◌, ◌==◌, Bool, true, false, cond, ◌&&◌, not, List, [], ◌∷◌, ◌++◌, Option, Some, None, refl, sym, ap, subst, ◌∙◌}
-use Rattle.std.specs.List.{AllByRecursion}
+use Rattle.std.proofs.Common.{arith, length, ◌≡◌, ◌⊎◌, inl, inr, Bool, true, false, cond, ◌&&◌, not, List, Option, Some, None, refl, sym, subst}
 use Rattle.vk_types.specs.declared.types.Ty.{Ty}
 use Rattle.vk_types.specs.Conversions.{common_type}
-use Rattle.vk_numbers.specs.Types.{binary_type, unary_type}
+use Rattle.vk_numbers.specs.Types.{binary_type}
 use Rattle.vk_kinds.specs.declared.heads.CType.{CType}
 use Rattle.vk_kinds.specs.declared.heads.CType.TheVariants.{Void, Int, Ptr}
-use Rattle.vk_ast.specs.declared.names.NameId.{NameId}
-use Rattle.vk_ast.specs.declared.expressions.UnOp.{UnOp}
 use Rattle.vk_ast.specs.declared.expressions.BinOp.{BinOp}
-use Rattle.vk_ast.specs.Tree.{Tree, Trees, int, name, index, deref, addr, unary, binary, choice, cast, call, no_trees, more_trees}
-use Rattle.vk_rules_book.specs.declared.contexts.Around.{Around}
-use Rattle.vk_rules_book.specs.declared.contexts.Role.{Role}
+use Rattle.vk_ast.specs.Tree.{Tree, int, name, index, deref, addr, unary, binary, choice, cast, call}
 use Rattle.vk_rules_book.specs.declared.contexts.Role.TheVariants as role
 use Rattle.vk_rules_book.specs.declared.typings.Typing.{Typing}
 use Rattle.vk_rules_book.specs.declared.typings.Typing.TheVariants.{Number, Variable, Cell, Pointer, Nothing, Function, Untyped}
-use Rattle.vk_rules_book.specs.Expressions.{called_faults, expression_faults, has_form_of_place, is_changing, is_free_pointer, is_plain_function, is_simd, is_undeclared, is_written_parameter, is_wrong_place, lets_written, may_be_assigned, may_have_address}
-use Rattle.vk_rules_book.specs.Rules.{Subject}
-use Rattle.vk_rules_book.specs.Scopes.{Scope, Meaning, a_variable, an_object, a_function, meaning_of}
-use Rattle.vk_rules_book.specs.Typings.{are_arguments, binary_typing, call_typing, called_typing, cast_typing, choice_typing, element_typing, is_argument, is_callable, is_number, is_pointer, is_pointer_to, is_typed, left_role, moves_left, moves_right, name_typing, number_type, pointed_typing, result_typing, right_role, same_type, takes_typed, then_number, typing_of, typings_of, unary_typing, wanted_types, with_address}
-use Rattle.vk_rules_book.specs.Visits.{Visit, argument_visits, called, expression, is_zero, optional_visits, parts_of, visits_of, with_role}
-use Rattle.vk_rules_laws.proofs.Each.{IsQuiet, back, both, front}
-use Rattle.vk_rules_laws.proofs.Typed.{own_of, parts_typed, taken_by, typed_here}
-use Rattle.vk_rules_laws.proofs.Visited.{name_quiet, object_quiet, place_quiet, plain_quiet}
-use Rattle.vk_meaning.specs.Points.{Variable as Numbered, variable_named}
-use Rattle.vk_meaning.specs.Types.{is_written_type, next_type, next_types}
-use Rattle.vk_meaning_laws.specs.Tame.{AreTame, IsTame, IsTameArgument, IsTameName, IsTameOptional, IsTamePlace, IsTameTarget, IsWrittenElement, IsZero, is_const_object, is_function, is_readable, is_written_name, is_written_variable}
-use Rattle.vk_meaning_accepted.proofs.LaneScopes.{IsFileMeaning, IsLaneScope, IsSeen, seen}
+use Rattle.vk_rules_book.specs.Expressions.{is_changing, is_plain_function, is_simd, is_written_parameter, lets_written, may_be_assigned, may_have_address}
+use Rattle.vk_rules_book.specs.Scopes.{Meaning, a_variable, an_object, a_function}
+use Rattle.vk_rules_book.specs.Typings.{are_arguments, binary_typing, call_typing, called_typing, choice_typing, element_typing, is_callable, is_pointer_to, is_typed, left_role, moves_left, moves_right, name_typing, number_type, pointed_typing, right_role, same_type, then_number, wanted_types, with_address}
+use Rattle.vk_rules_book.specs.Visits.{is_zero}
+use Rattle.vk_meaning.specs.Points.{Variable as Numbered}
+use Rattle.vk_meaning.specs.Types.{is_written_type}
+use Rattle.vk_meaning_laws.specs.Tame.{IsTameName, IsZero, is_const_object, is_function, is_written_variable}
+use Rattle.vk_meaning_accepted.proofs.LaneScopes.{IsFileMeaning, IsSeen}
 
 -- ---- tests
 
@@ -94,10 +85,10 @@ written_seen lane (Some v) (Some (an_object t is_array fixed)) s h = absurd s
 written_seen lane (Some v) (Some (a_function r ps is_simd)) s h = absurd s
 written_seen lane (Some v) (Some (a_variable t fixed)) s h = of_type t (subst (λ (u : CType). is_written_type u ≡ true) s h)
   where
-  of_type : (t : CType) → is_written_type t ≡ true → is_written_parameter (Some (a_variable t fixed)) ≡ true
-  of_type Void h = h
-  of_type (Int t) h = h
-  of_type (Ptr to written) h = h
+    of_type : (t : CType) → is_written_type t ≡ true → is_written_parameter (Some (a_variable t fixed)) ≡ true
+    of_type Void h = h
+    of_type (Int t) h = h
+    of_type (Ptr to written) h = h
 
 pub tame_name : (lane : Bool) (v : Option Numbered) (m : Option Meaning) → IsSeen lane v m → is_changing m ≡ false → is_written_variable v ≡ false → IsTameName v m
 tame_name lane (Some v) m s still plain = plain
@@ -112,10 +103,10 @@ written_name lane v None s still h = cc
 written_name lane None (Some (a_variable t fixed)) s still h = absurd s
 written_name lane (Some v) (Some (a_variable t fixed)) s still h = subst (λ (u : CType). is_written_type u ≡ true) (sym s) (of_type t h)
   where
-  of_type : (t : CType) → is_written_pointer (name_typing (Some (a_variable t fixed))) ≡ true → is_written_type t ≡ true
-  of_type Void h = h
-  of_type (Int t) h = h
-  of_type (Ptr to written) h = h
+    of_type : (t : CType) → is_written_pointer (name_typing (Some (a_variable t fixed))) ≡ true → is_written_type t ≡ true
+    of_type Void h = h
+    of_type (Int t) h = h
+    of_type (Ptr to written) h = h
 written_name lane v (Some (an_object t true true)) s still h = cc
 written_name lane v (Some (an_object t true false)) s still h = cc
 written_name lane v (Some (an_object t false fixed)) s still h = cc
@@ -158,9 +149,9 @@ no_number (Some t) f = refl
 pub no_element : (b s : Typing) → is_written_pointer (element_typing b s) ≡ false
 no_element (Pointer to written) s = of_number (number_type s)
   where
-  of_number : (o : Option Ty) → is_written_pointer (then_number o (λ t. Cell to written)) ≡ false
-  of_number None = refl
-  of_number (Some t) = refl
+    of_number : (o : Option Ty) → is_written_pointer (then_number o (λ t. Cell to written)) ≡ false
+    of_number None = refl
+    of_number (Some t) = refl
 no_element (Number t) s = refl
 no_element (Variable t fixed) s = refl
 no_element (Cell t written) s = refl
@@ -181,40 +172,41 @@ pub no_choice : (c s t : Typing) → is_written_pointer (choice_typing c s t) �
 unfolding choice_typing
 no_choice c s t = of_three (number_type c) (number_type s) (number_type t)
   where
-  of_three : (c s t : Option Ty) → is_written_pointer (then_number c (λ c. then_number s (λ s. then_number t (λ t. Number (common_type s t))))) ≡ false
-  of_three None s t = refl
-  of_three (Some c) None t = refl
-  of_three (Some c) (Some s) None = refl
-  of_three (Some c) (Some s) (Some t) = refl
+    of_three : (c s t : Option Ty) → is_written_pointer (then_number c (λ c. then_number s (λ s. then_number t (λ t. Number (common_type s t))))) ≡ false
+    of_three None s t = refl
+    of_three (Some c) None t = refl
+    of_three (Some c) (Some s) None = refl
+    of_three (Some c) (Some s) (Some t) = refl
 
 pub no_call : (m : Option Meaning) (ts : List Typing) → is_written_pointer (call_typing m ts) ≡ false
 no_call m ts = of_test (are_arguments (wanted_types m) ts && is_callable m (length ts))
   where
-  of_result : (m : Option Meaning) → is_written_pointer (called_typing m) ≡ false
-  of_result None = refl
-  of_result (Some (a_variable t fixed)) = refl
-  of_result (Some (an_object t is_array fixed)) = refl
-  of_result (Some (a_function Void ps is_simd)) = refl
-  of_result (Some (a_function (Int t) ps is_simd)) = refl
-  of_result (Some (a_function (Ptr to written) ps is_simd)) = refl
-  of_test : (b : Bool) → is_written_pointer (cond b (called_typing m) Untyped) ≡ false
-  of_test true = of_result m
-  of_test false = refl
+    of_result : (m : Option Meaning) → is_written_pointer (called_typing m) ≡ false
+    of_result None = refl
+    of_result (Some (a_variable t fixed)) = refl
+    of_result (Some (an_object t is_array fixed)) = refl
+    of_result (Some (a_function Void ps is_simd)) = refl
+    of_result (Some (a_function (Int t) ps is_simd)) = refl
+    of_result (Some (a_function (Ptr to written) ps is_simd)) = refl
+
+    of_test : (b : Bool) → is_written_pointer (cond b (called_typing m) Untyped) ≡ false
+    of_test true = of_result m
+    of_test false = refl
 
 -- a sum is a written pointer only where one of its operands is
 pub written_sum : (op : BinOp) (s t : Typing) → is_written_pointer (binary_typing op s t) ≡ true → (is_written_pointer s ≡ true) ⊎ (is_written_pointer t ≡ true)
 written_sum op s t = of_tests (moves_left op s) (moves_right op s t) (number_type s) (number_type t)
   where
-  of_tests : (a b : Bool) (m n : Option Ty)
-      → is_written_pointer (cond a (then_number n (λ x. s)) (cond b (then_number m (λ x. t)) (then_number m (λ x. then_number n (λ y. Number (binary_type op x y)))))) ≡ true
-      → (is_written_pointer s ≡ true) ⊎ (is_written_pointer t ≡ true)
-  of_tests true b m (Some n) h = inl h
-  of_tests true b m None h = cc
-  of_tests false true (Some m) n h = inr h
-  of_tests false true None n h = cc
-  of_tests false false (Some m) (Some n) h = cc
-  of_tests false false (Some m) None h = cc
-  of_tests false false None n h = cc
+    of_tests : (a b : Bool) (m n : Option Ty)
+        → is_written_pointer (cond a (then_number n (λ x. s)) (cond b (then_number m (λ x. t)) (then_number m (λ x. then_number n (λ y. Number (binary_type op x y)))))) ≡ true
+        → (is_written_pointer s ≡ true) ⊎ (is_written_pointer t ≡ true)
+    of_tests true b m (Some n) h = inl h
+    of_tests true b m None h = cc
+    of_tests false true (Some m) n h = inr h
+    of_tests false true None n h = cc
+    of_tests false false (Some m) (Some n) h = cc
+    of_tests false false (Some m) None h = cc
+    of_tests false false None n h = cc
 
 pub written_address : (t : Typing) → is_written_pointer (with_address t) ≡ true → is_written_cell t ≡ true
 written_address (Cell t written) h = h
@@ -237,9 +229,9 @@ written_pointed Untyped h = cc
 pub written_element : (b s : Typing) → is_written_cell (element_typing b s) ≡ true → is_written_pointer b ≡ true
 written_element (Pointer to written) s h = of_number (number_type s) h
   where
-  of_number : (o : Option Ty) → is_written_cell (then_number o (λ t. Cell to written)) ≡ true → written ≡ true
-  of_number None h = cc
-  of_number (Some t) h = h
+    of_number : (o : Option Ty) → is_written_cell (then_number o (λ t. Cell to written)) ≡ true → written ≡ true
+    of_number None h = cc
+    of_number (Some t) h = h
 written_element (Number t) s h = cc
 written_element (Variable t fixed) s h = cc
 written_element (Cell t written) s h = cc
@@ -261,16 +253,16 @@ written_argument to Untyped h = cc
 pub left_plain : (op : BinOp) (s t : Typing) → lets_written (left_role op s t) ≡ false
 left_plain op s t = of_test (moves_left op s)
   where
-  of_test : (b : Bool) → lets_written (cond b role.Added role.Value) ≡ false
-  of_test true = refl
-  of_test false = refl
+    of_test : (b : Bool) → lets_written (cond b role.Added role.Value) ≡ false
+    of_test true = refl
+    of_test false = refl
 
 pub right_plain : (op : BinOp) (s t : Typing) → lets_written (right_role op s t) ≡ false
 right_plain op s t = of_test (moves_right op s t)
   where
-  of_test : (b : Bool) → lets_written (cond b role.Added role.Value) ≡ false
-  of_test true = refl
-  of_test false = refl
+    of_test : (b : Bool) → lets_written (cond b role.Added role.Value) ≡ false
+    of_test true = refl
+    of_test false = refl
 
 pub argument_plain : (w : CType) → is_written_type w ≡ false → lets_written (role.Argument (Some w)) ≡ false
 argument_plain Void h = refl
@@ -283,16 +275,17 @@ pub tame_callee : (lane : Bool) (v : Option Numbered) (m : Option Meaning) (ts :
     → (lane ≡ true) × (is_function m ≡ true)
 tame_callee lane v m ts s plain typed = of_meaning v m s plain (called_typed (are_arguments (wanted_types m) ts && is_callable m (length ts)) m typed)
   where
-  called_typed : (b : Bool) (m : Option Meaning) → is_typed (cond b (called_typing m) Untyped) ≡ true → is_typed (called_typing m) ≡ true
-  called_typed true m h = h
-  called_typed false m h = cc
-  of_meaning : (v : Option Numbered) (m : Option Meaning) → IsSeen lane v m → is_plain_function m ≡ false → is_typed (called_typing m) ≡ true → (lane ≡ true) × (is_function m ≡ true)
-  of_meaning v None s plain h = cc
-  of_meaning v (Some (a_variable t fixed)) s plain h = cc
-  of_meaning v (Some (an_object t is_array fixed)) s plain h = cc
-  of_meaning (Some v) (Some (a_function r ps is_simd)) s plain h = absurd s
-  of_meaning None (Some (a_function r ps true)) s plain h = (s, refl)
-  of_meaning None (Some (a_function r ps false)) s plain h = cc
+    called_typed : (b : Bool) (m : Option Meaning) → is_typed (cond b (called_typing m) Untyped) ≡ true → is_typed (called_typing m) ≡ true
+    called_typed true m h = h
+    called_typed false m h = cc
+
+    of_meaning : (v : Option Numbered) (m : Option Meaning) → IsSeen lane v m → is_plain_function m ≡ false → is_typed (called_typing m) ≡ true → (lane ≡ true) × (is_function m ≡ true)
+    of_meaning v None s plain h = cc
+    of_meaning v (Some (a_variable t fixed)) s plain h = cc
+    of_meaning v (Some (an_object t is_array fixed)) s plain h = cc
+    of_meaning (Some v) (Some (a_function r ps is_simd)) s plain h = absurd s
+    of_meaning None (Some (a_function r ps true)) s plain h = (s, refl)
+    of_meaning None (Some (a_function r ps false)) s plain h = cc
 
 -- ---- places that may be assigned
 
@@ -308,10 +301,10 @@ cell_pointed Untyped typed h = cc
 pub cell_element : (b s : Typing) → is_typed (element_typing b s) ≡ true → may_be_assigned (element_typing b s) ≡ true → is_written_cell (element_typing b s) ≡ true
 cell_element (Pointer to written) s typed h = of_number (number_type s) typed h
   where
-  of_number : (o : Option Ty) → is_typed (then_number o (λ t. Cell to written)) ≡ true → may_be_assigned (then_number o (λ t. Cell to written)) ≡ true
-      → is_written_cell (then_number o (λ t. Cell to written)) ≡ true
-  of_number None typed h = cc
-  of_number (Some t) typed h = h
+    of_number : (o : Option Ty) → is_typed (then_number o (λ t. Cell to written)) ≡ true → may_be_assigned (then_number o (λ t. Cell to written)) ≡ true
+        → is_written_cell (then_number o (λ t. Cell to written)) ≡ true
+    of_number None typed h = cc
+    of_number (Some t) typed h = h
 cell_element (Number t) s typed h = cc
 cell_element (Variable t fixed) s typed h = cc
 cell_element (Cell t written) s typed h = cc

@@ -22,7 +22,7 @@ pub record IsQuietFunction (unit : Subject) (before : List ItemTree) (f : Functi
   pub sum : passes unit.texts unit.items before (function f) ≡ false
   pub size : is_too_large f f.body ≡ false
 
-first_false : (a b : Bool) → (a || b) ≡ false → a ≡ false
+pub first_false : (a b : Bool) → (a || b) ≡ false → a ≡ false
 first_false true b e = e
 first_false false b e = refl
 
