@@ -2,5 +2,6 @@ pub mod Each
 pub mod Fitting
 pub mod Visited
 pub mod Typed
+mod Declarations
 mod TypedUnits
 pub mod Sizes

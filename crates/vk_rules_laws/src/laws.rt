@@ -1,22 +1,23 @@
 // What holds of units that break no rule.
 
 ghost use Rattle.std.specs.Prelude.{◌≡◌, ◌≤◌, ◌+◌, ℕ, List, [], ◌∷◌, Contains, Some, length, true, false, is_some};
+ghost use Rattle.std.specs.List.{list_any};
 ghost use Rattle.vk_ast.specs.declared.names.NameId.{NameId};
 ghost use Rattle.vk_ast.specs.Directives.{DirectiveTree};
 ghost use Rattle.vk_ast.specs.Tree.{Tree, Trees, name};
 ghost use Rattle.vk_ast.specs.Statements.{StmtTree};
-ghost use Rattle.vk_ast.specs.Units.{FunctionTree, ItemTree, function, function_nodes};
+ghost use Rattle.vk_ast.specs.Units.{FunctionTree, ItemTree, ObjectTree, function, object, function_nodes};
 ghost use Rattle.vk_rules_book.specs.declared.contexts.Around.{Around};
 ghost use Rattle.vk_rules_book.specs.declared.contexts.Role.{Role};
-ghost use Rattle.vk_rules_book.specs.Directives.{has_signature, is_no_width, repeats_a_name};
+ghost use Rattle.vk_rules_book.specs.Directives.{has_other_directives, has_signature, is_no_width, repeats_a_name};
 ghost use Rattle.vk_rules_book.specs.Expressions.{is_simd, is_written_parameter, lets_written};
-ghost use Rattle.vk_rules_book.specs.Items.{costs, locals_of};
+ghost use Rattle.vk_rules_book.specs.Items.{agrees, costs, defines, locals_of};
 ghost use Rattle.vk_rules_book.specs.Rules.{Subject, faults_at, faults_of};
-ghost use Rattle.vk_rules_book.specs.Scopes.{Scope, meaning_of};
+ghost use Rattle.vk_rules_book.specs.Scopes.{Scope, first_declaration, meaning_of};
 ghost use Rattle.vk_rules_book.specs.Signatures.{head_of, signature_of};
 ghost use Rattle.vk_rules_book.specs.Typings.{is_typed, takes_typed, typing_of};
 ghost use Rattle.vk_rules_laws.specs.Grammatical.{HasGrammarTypes};
-ghost use Rattle.vk_rules_book.specs.Visits.{Visit, called, directive, expression, unit_visits};
+ghost use Rattle.vk_rules_book.specs.Visits.{Visit, called, directive, directives, expression, item, unit_visits};
 
 /// No rule is broken at any visit.
 pub fn no_fault()
@@ -80,4 +81,18 @@ pub fn definitions_fit()
         (body : StmtTree) → f.body ≡ Some body → length f.params + locals_of body ≤ 512 }
     ensures nodes { (unit : Subject) → faults_of unit ≡ [] → (f : FunctionTree) → Contains unit.items (function f) →
         (body : StmtTree) → f.body ≡ Some body → function_nodes f ≤ 2000 }
+{}
+
+/// What is declared again is of the same kind, types, `const` and length as its first declaration, and a function is defined once.
+pub fn declarations_agree()
+    ensures functions { (unit : Subject) → faults_of unit ≡ [] → (before : List ItemTree) (f : FunctionTree) →
+        Contains (unit_visits unit.texts unit.items) (item before (function f)) →
+        (first : ItemTree) → first_declaration before f.name ≡ Some first → agrees first (function f) ≡ true }
+    ensures objects { (unit : Subject) → faults_of unit ≡ [] → (before : List ItemTree) (o : ObjectTree) →
+        Contains (unit_visits unit.texts unit.items) (item before (object o)) →
+        (first : ItemTree) → first_declaration before o.name ≡ Some first → agrees first (object o) ≡ true }
+    ensures once { (unit : Subject) → faults_of unit ≡ [] → (before : List ItemTree) (f : FunctionTree) →
+        Contains (unit_visits unit.texts unit.items) (item before (function f)) → is_some f.body ≡ true → list_any (defines f.name) before ≡ false }
+    ensures directives { (unit : Subject) → faults_of unit ≡ [] → (before : List ItemTree) (f : FunctionTree) →
+        Contains (unit_visits unit.texts unit.items) (directives before f) → has_other_directives (first_declaration before f.name) f ≡ false }
 {}
