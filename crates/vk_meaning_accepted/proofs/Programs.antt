@@ -131,14 +131,14 @@ module _ (units : List Subject) where
       (first_more (before_items at.found.before d.function) at.found.behind id i (subst (λ (xs : List ItemTree). first_declaration xs id ≡ Some i) at.found.items_are e))
 
   pub consts_fixed : (lane : List ℕ → Bool) → AgreeOnConsts units → ConstsAreFixed units lane
-  consts_fixed lane consts text d l id h = of_tests (is_print d.unit.texts id) (first_declaration d.items id) refl h
+  consts_fixed lane consts text d l id h there = of_tests (is_print d.unit.texts id) (first_declaration d.items id) refl h
     where
       of_tests : (printing : Bool) (o : Option ItemTree) → first_declaration d.items id ≡ o → is_const_object (cond printing (Some printer) (declared_meaning o)) ≡ true
           → (array_at (arrays_of units) (array_number (arrays_of units) (text_of d.unit.texts id))).fixed ≡ true
       of_tests true o is h = cc
       of_tests false None is h = cc
       of_tests false (Some (function g)) is h = cc
-      of_tests false (Some (object o)) is h = consts.fixed d.unit (definition_is units text d l.definition).unit_in id o (in_unit text d l.definition id (object o) is) h
+      of_tests false (Some (object o)) is h = consts.fixed d.unit (definition_is units text d l.definition).unit_in id o (in_unit text d l.definition id (object o) is) h there
       of_tests false (Some (lost_line x)) is h = cc
 
 module _ (units : List Subject) (lane : List ℕ → Bool) (accepted : AreAccepted units) where

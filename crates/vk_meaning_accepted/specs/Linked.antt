@@ -1,5 +1,5 @@
 -- Units of a program that are accepted one by one, and what they have to agree on.
-use Rattle.std.specs.Prelude.{◌≡◌, ℕ, Bool, true, List, [], Contains, Some}
+use Rattle.std.specs.Prelude.{◌≡◌, ◌<◌, ℕ, Bool, true, List, [], length, Contains, Some}
 use Rattle.vk_ast.specs.declared.names.NameId.{NameId}
 use Rattle.vk_ast.specs.Units.{FunctionTree, ObjectTree, function, object}
 use Rattle.vk_rules_book.specs.Rules.{Subject, faults_of}
@@ -24,7 +24,8 @@ pub record AgreeOnFunctions (units : List Subject) (lane : List ℕ → Bool) : 
   pub defined : (text : List ℕ) (d : Definition) → IsLaneFunction units lane text d →
       (g : FunctionTree) → first_declaration d.unit.items d.function.name ≡ Some (function g) → has_directives g.directives ≡ true
 
--- what a unit declares as a `const` object is defined as one
+-- what a unit declares as a `const` object is `const` where it is defined
 pub record AgreeOnConsts (units : List Subject) : Type 0 where
   pub fixed : (u : Subject) → Contains units u → (id : NameId) (o : ObjectTree) → first_declaration u.items id ≡ Some (object o) → o.fixed ≡ true →
+      array_number (arrays_of units) (text_of u.texts id) < length (arrays_of units) →
       (array_at (arrays_of units) (array_number (arrays_of units) (text_of u.texts id))).fixed ≡ true

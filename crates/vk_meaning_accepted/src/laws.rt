@@ -10,7 +10,7 @@ pub fn accepted_programs_are_tame()
     ensures { (units : List Subject) (lane : List ℕ → Bool) → AreAccepted units → AgreeOnFunctions units lane → IsTameProgram units lane }
 {}
 
-/// What functions with directives know as `const` objects is defined as `const`, in units that agree on these.
+/// What functions with directives know as `const` objects is `const` where it is defined, in units that agree on these.
 pub fn consts_are_fixed()
     ensures { (units : List Subject) (lane : List ℕ → Bool) → AgreeOnConsts units → ConstsAreFixed units lane }
 {}
