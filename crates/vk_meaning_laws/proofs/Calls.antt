@@ -13,7 +13,7 @@ use Rattle.vk_meaning.specs.Statements.{Outcome}
 use Rattle.vk_meaning.specs.Programs.{arrays_of, array_number, Definition, definition_of, first_point}
 use Rattle.vk_meaning.specs.Meaning.{print_first, fallen, ended, first_variables, Calls, call_by, context_of, called, called_where_defined, call_within}
 use Rattle.vk_meaning_terms.specs.Ranges.{IsNumberOf}
-use Rattle.vk_meaning_laws.specs.Tame.{is_const_object, IsLaneFunction, IsTameProgram}
+use Rattle.vk_meaning_laws.specs.Tame.{is_const_object, is_function, IsLaneFunction, IsTameProgram}
 use Rattle.vk_meaning_laws.proofs.Sights.{Sight, TakesWords, AlikeValues, both_got, both_halt, Keeps, IsReadable, keeps_given, keeps_weaken}
 use Rattle.vk_meaning_laws.proofs.Expressions.{Allowed, free, tame, Free, free_known, AreFine, Sees}
 use Rattle.vk_meaning_terms.proofs.Zero.{zero_in_range}
@@ -101,12 +101,12 @@ module _ {v : Sight} (units : List Subject) (turns : ℕ) (takes : TakesWords v 
         Sees v (context_of units turns calls d) (file_meaning d.unit.texts d.items) (λ id. lane (text_of d.unit.texts id))
     tame_sees calls k text d l = record { words = takes; consts = tame (consts text d l); calls = by }
       where
-        by : (id : NameId) (ds : List Datum) → Allowed v ((lane (text_of d.unit.texts id) ≡ true) × AreFine v (arrays_of units) (wanted_types (file_meaning d.unit.texts d.items id)) ds) →
+        by : (id : NameId) (ds : List Datum) → Allowed v ((lane (text_of d.unit.texts id) ≡ true) × (is_function (file_meaning d.unit.texts d.items id) ≡ true) × AreFine v (arrays_of units) (wanted_types (file_meaning d.unit.texts d.items id)) ds) →
             Keeps v (IsReadable v) (call_by calls (is_print d.unit.texts id) (text_of d.unit.texts id) ds)
         by id ds (free all) = keeps_call_by calls (is_print d.unit.texts id) (text_of d.unit.texts id) ds (k.free_calls all (text_of d.unit.texts id) ds)
         by id ds (tame h) =
             keeps_call_by calls (is_print d.unit.texts id) (text_of d.unit.texts id) ds (k.tame_calls (text_of d.unit.texts id) h.0 ds (λ f e.
-            subst (λ (ts : List CType). AreFine v (arrays_of units) ts ds) (program.declared text d l id f (record { lane_function = h.0; definition = e })) h.1))
+            subst (λ (ts : List CType). AreFine v (arrays_of units) ts ds) (program.declared text d l id h.1 f (record { lane_function = h.0; definition = e })) h.2))
 
     tame_defined : (calls : Calls) → KeepsCalls v units lane calls → (text : List ℕ) (d : Definition) → IsLaneFunction units lane text d → (ds : List Datum) →
         AreFine v (arrays_of units) (types_of d.function.params) ds → Keeps v (IsReturned v d.function.result) (called units turns calls d ds)

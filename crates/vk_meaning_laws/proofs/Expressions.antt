@@ -114,7 +114,7 @@ function_is_no_variable (Some (a_function r ps is_simd)) e = refl
 pub record Sees (v : Sight) (c : Context) (file : NameId → Option Meaning) (lane : NameId → Bool) : Type 0 where
   pub words : TakesWords v c.arrays
   pub consts : Allowed v ((id : NameId) → is_const_object (file id) ≡ true → (i : ℕ) → v.Seen (c.array id) i)
-  pub calls : (id : NameId) (ds : List Datum) → Allowed v ((lane id ≡ true) × AreFine v c.arrays (wanted_types (file id)) ds) → Keeps v (IsReadable v) (c.call id ds)
+  pub calls : (id : NameId) (ds : List Datum) → Allowed v ((lane id ≡ true) × (is_function (file id) ≡ true) × AreFine v c.arrays (wanted_types (file id)) ds) → Keeps v (IsReadable v) (c.call id ds)
 
 const_seen : (v : Sight) (c : Context) (file : NameId → Option Meaning) (lane : NameId → Bool) → Sees v c file lane → (scope : Scope) → scope.file ≡ file → (id : NameId) →
     is_const_object (meaning_of scope id) ≡ true → (i : ℕ) → v.Seen (c.array id) i
@@ -227,7 +227,7 @@ module _ {v : Sight} {c : Context} {file : NameId → Option Meaning} {lane : Na
       (ds : List Datum) → AreFine v c.arrays (wanted_types (meaning_of scope id)) ds → Keeps v (IsReadable v) (c.call id ds)
   keeps_called id es (free all) ds f = st.sees.calls id ds (free all)
   keeps_called id es (tame h) ds f =
-      st.sees.calls id ds (tame (h.0, subst (λ (m : Option Meaning). AreFine v c.arrays (wanted_types m) ds) (called_at_file id h.1) f))
+      st.sees.calls id ds (tame (h.0, subst (λ (m : Option Meaning). is_function m ≡ true) (called_at_file id h.1) h.1, subst (λ (m : Option Meaning). AreFine v c.arrays (wanted_types m) ds) (called_at_file id h.1) f))
 
   arguments_more : {Q : Datum → Type 0} (next : List Datum → Action) (before rest : List Datum) (d : Datum) → Keeps v Q (next (before ++ (d ∷ rest))) → Keeps v Q (next ((before ++ d ∷ []) ++ rest))
   arguments_more {Q = Q} next before rest d h = subst (λ (ds : List Datum). Keeps v Q (next ds)) (sym (append_assoc before (d ∷ []) rest)) h

@@ -1,5 +1,6 @@
 -- A call of a tame function reads and writes nothing but what its arguments and `const` objects let it.
-use Rattle.std.proofs.Common.{◌≡◌, ◌<◌, ℕ, zero, suc, Option, None, ◌==◌, Bool, true, false, cond, ◌&&◌, List, [], ◌∷◌, ◌++◌, length, get_or, Some, refl, subst, sym, ap, arith, rules, ◌∙◌}
+use Rattle.std.proofs.lemmas.Bool.Decides.{nat_tests}
+use Rattle.std.proofs.Common.{◌≡◌, ◌<◌, ◌≤◌, ◌⊎◌, inl, inr, nat_lt, ℕ, zero, suc, Option, None, ◌==◌, Bool, true, false, cond, ◌&&◌, List, [], ◌∷◌, ◌++◌, length, get_or, Some, refl, subst, sym, ap, arith, rules, ◌∙◌}
 use Rattle.vk_kinds.specs.declared.heads.CType.{CType}
 use Rattle.vk_kinds.specs.declared.heads.CType.TheVariants.{Void, Int, Ptr}
 use Rattle.vk_rules_book.specs.Scopes.{text_of, types_of}
@@ -120,8 +121,21 @@ ends_alike : (Seen Own : ℕ → ℕ → Type 0) (inside : (a i : ℕ) → Own a
 ends_alike Seen Own inside x x' (both_got d w w' q r) = (refl, r)
 ends_alike Seen Own inside x x' (both_halt s w w' r) = (refl, r)
 
-sees_fixed : (v : Sight) (units : List Subject) (lane : List ℕ → Bool) → ConstsAreFixed units lane → ((a i : ℕ) → (array_at (arrays_of units) a).fixed ≡ true → v.Seen a i) → SeesConsts v units lane
-sees_fixed v units lane fixed sees text d l id const i = sees (array_number (arrays_of units) (text_of d.unit.texts id)) i (fixed text d l id const)
+there_or_absent : (a n : ℕ) → (a < n) ⊎ (n ≤ a)
+there_or_absent a n = of_test (nat_lt a n) refl
+  where
+    of_test : (b : Bool) → nat_lt a n ≡ b → (a < n) ⊎ (n ≤ a)
+    of_test true e = inl (grind (arith, nat_tests))
+    of_test false e = inr (grind (arith, nat_tests))
+
+sees_fixed : (v : Sight) (units : List Subject) (lane : List ℕ → Bool) → ConstsAreFixed units lane → ((a i : ℕ) → (array_at (arrays_of units) a).fixed ≡ true → v.Seen a i)
+    → ((a i : ℕ) → length (arrays_of units) ≤ a → v.Seen a i) → SeesConsts v units lane
+sees_fixed v units lane fixed sees absent text d l id const i =
+    let array = array_number (arrays_of units) (text_of d.unit.texts id) in
+    elim (there_or_absent array (length (arrays_of units))) [
+      | inl lt ↦ sees array i (fixed text d l id const lt)
+      | inr le ↦ absent array i le
+    ]
 
 -- from memories that agree on all that it may look at it ends alike
 pub reads_within : (units : List Subject) (lane : List ℕ → Bool) (turns : ℕ) → IsTameProgram units lane → ConstsAreFixed units lane → (text : List ℕ) (d : Definition) → IsLaneFunction units lane text d →
@@ -130,7 +144,7 @@ pub reads_within : (units : List Subject) (lane : List ℕ → Bool) (turns : �
 reads_within units lane turns program fixed text d l ds Cells covers m m' h =
     ends_alike Cells (NamesCell (types_of d.function.params) (arrays_of units) ds) covers.own _ _
     ((tame_call {v = agreement Cells (NamesCell (types_of d.function.params) (arrays_of units) ds) covers.own} units turns (λ b z. tt) lane program
-    (sees_fixed (agreement Cells (NamesCell (types_of d.function.params) (arrays_of units) ds) covers.own) units lane fixed covers.consts) 32 text l.lane_function ds
+    (sees_fixed (agreement Cells (NamesCell (types_of d.function.params) (arrays_of units) ds) covers.own) units lane fixed covers.consts covers.absent) 32 text l.lane_function ds
     (fine_for (agreement Cells (NamesCell (types_of d.function.params) (arrays_of units) ds) covers.own) units text d l.definition ds
     (fine_arguments (agreement Cells (NamesCell (types_of d.function.params) (arrays_of units) ds) covers.own) (types_of d.function.params) (arrays_of units) ds (λ a i n. n) covers.reads))).from
     (empty_world m) (empty_world m') (record { memory = h; events = refl }))
@@ -167,6 +181,17 @@ const_unnamed ts arrays lanes words mask typed j below on a i fixed n =
         let same : (array_at arrays a).fixed ≡ false = subst (λ (b : ℕ). (array_at arrays b).fixed ≡ false) n.same_array not_fixed in
         cc
 
+-- nor one of an array that is not there
+absent_unnamed : (ts : List CType) (arrays : List Array) (lanes : ℕ) (words : Words) (mask : ℕ → Bool) → AreTyped ts arrays lanes words mask → (j : ℕ) → j < lanes → mask j ≡ true →
+    (a i : ℕ) → length arrays ≤ a → NamesCell ts arrays (arguments_of ts words j) a i → ⊥
+absent_unnamed ts arrays lanes words mask typed j below on a i absent n =
+    go (type_at ts n.parameter) n.written (typed.pointed n.parameter j n.below below on)
+  where
+    go : (t : CType) → is_written_type t ≡ true → IsPointed arrays t (argument ts words n.parameter j) → ⊥
+    go Void w p = cc
+    go (Int t) w p = cc
+    go (Ptr to written) w p = let same = n.same_array in let there = p.there in omega (arith, same, there, absent)
+
 -- lanes that are apart reach no cell of one another
 lane_covers : (ts : List CType) (arrays : List Array) (lanes : ℕ) (words : Words) (mask : ℕ → Bool) → AreTyped ts arrays lanes words mask → AreApart ts arrays lanes words mask → (j : ℕ) → j < lanes → mask j ≡ true →
     CoversReach arrays ts (arguments_of ts words j) (IsUndisturbed ts arrays lanes words mask j)
@@ -174,6 +199,7 @@ lane_covers ts arrays lanes words mask typed apart j below on = record {
   own = λ a i own k under other different named. apart.cells k j under below other on different a i named own;
   reads = λ a i r k under other different named. apart.arrays_read k j under below other on different a i named r;
   consts = λ a i fixed k under other different named. const_unnamed ts arrays lanes words mask typed k under other a i fixed named;
+  absent = λ a i out k under other different named. absent_unnamed ts arrays lanes words mask typed k under other a i out named;
 }
 
 -- a lane's call ends alike from memories that differ only where other active lanes may write

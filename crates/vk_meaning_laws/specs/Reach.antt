@@ -1,5 +1,5 @@
 -- What a call reaches of memory: what it may read, and what may differ where it ends alike.
-use Rattle.std.specs.Prelude.{◌≡◌, ◌≢◌, ◌<◌, ◌++◌, ℕ, Bool, true, List}
+use Rattle.std.specs.Prelude.{◌≡◌, ◌≢◌, ◌<◌, ◌≤◌, length, ◌++◌, ℕ, Bool, true, List}
 use Rattle.vk_kinds.specs.declared.heads.CType.{CType}
 use Rattle.vk_meaning.specs.World.{Array, array_at, Memory, Event, World}
 use Rattle.vk_meaning.specs.Data.{Datum, Value, got, halts}
@@ -21,11 +21,12 @@ EndAlikeOn Cells (halts x w) (halts x' w') = (x ≡ x') × AreAlikeOn Cells w w'
 EndAlikeOn Cells _ _ = ⊥
 
 -- These cells are at least all that a call on these arguments may look at: the cells that its pointers name which may be written, the
--- arrays that its other pointers point into, and `const` arrays.
+-- arrays that its other pointers point into, `const` arrays, and arrays that are not there, which have no elements.
 pub record CoversReach (arrays : List Array) (ts : List CType) (ds : List Datum) (Cells : (array index : ℕ) → Type 0) : Type 0 where
   pub own : (a i : ℕ) → NamesCell ts arrays ds a i → Cells a i
   pub reads : (a i : ℕ) → ReadsArray ts ds a → Cells a i
   pub consts : (a i : ℕ) → (array_at arrays a).fixed ≡ true → Cells a i
+  pub absent : (a i : ℕ) → length arrays ≤ a → Cells a i
 
 -- the cells of a truth table
 abbrev pub IsIn : (cells : (array index : ℕ) → Bool) → (array index : ℕ) → Type 0

@@ -1,7 +1,7 @@
 -- Bodies that touch memory through their pointers alone, as those of functions with directives do (D15, D16 of the rules of units): a
 -- pointer that may be written is used as `*p`, as `p[0]` or as a whole argument for such a pointer; objects are `const`; called are
 -- functions of the same kind.
-use Rattle.std.specs.Prelude.{◌≡◌, ◌⊎◌, ◌&&◌, ℕ, Bool, true, false, List, [], ◌∷◌, Option, Some, None, is_some}
+use Rattle.std.specs.Prelude.{◌≡◌, ◌<◌, length, ◌⊎◌, ◌&&◌, ℕ, Bool, true, false, List, [], ◌∷◌, Option, Some, None, is_some}
 use Rattle.vk_kinds.specs.declared.heads.CType.{CType}
 use Rattle.vk_kinds.specs.declared.heads.CType.TheVariants.{Int}
 use Rattle.vk_ast.specs.declared.names.NameId.{NameId}
@@ -146,11 +146,13 @@ pub record IsTameProgram (units : List Subject) (lane : List ℕ → Bool) : Typ
   pub body : (text : List ℕ) (d : Definition) → IsLaneFunction units lane text d →
       IsTameStmt (λ id. lane (text_of d.unit.texts id)) (first_point d) d.body
   pub declared : (text : List ℕ) (d : Definition) → IsLaneFunction units lane text d →
-      (id : NameId) (f : Definition) → IsLaneFunction units lane (text_of d.unit.texts id) f →
+      (id : NameId) → is_function (file_meaning d.unit.texts d.items id) ≡ true →
+      (f : Definition) → IsLaneFunction units lane (text_of d.unit.texts id) f →
       wanted_types (file_meaning d.unit.texts d.items id) ≡ types_of f.function.params
 
--- What these functions know as `const` objects are arrays that are `const`: so it is where the units link.
+-- What these functions know as `const` objects are arrays that are `const`, where they are defined: so it is where the units link.
 abbrev pub ConstsAreFixed : (units : List Subject) → (lane : List ℕ → Bool) → Type 0
 ConstsAreFixed units lane = (text : List ℕ) (d : Definition) → IsLaneFunction units lane text d →
     (id : NameId) → is_const_object (file_meaning d.unit.texts d.items id) ≡ true →
+    array_number (arrays_of units) (text_of d.unit.texts id) < length (arrays_of units) →
     (array_at (arrays_of units) (array_number (arrays_of units) (text_of d.unit.texts id))).fixed ≡ true

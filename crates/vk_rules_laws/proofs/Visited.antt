@@ -52,6 +52,14 @@ module _ (texts : List (List ℕ)) (around : Around) (scope : Scope) (r : Role) 
       when_not (is_ill_typed r (typing_of scope e)) (fault_at (line_of e) (token_of e) C9)
       (quiet_left (when (is_ill_typed r (typing_of scope e)) (fault_at (line_of e) (token_of e) C9)) (place ++ own_faults texts around scope r e) quiet)
 
+  pub place_quiet : (e : Tree) → expression_faults texts around scope r e ≡ [] → is_wrong_place r e (typing_of scope e) ≡ false
+  unfolding expression_faults
+  place_quiet e quiet =
+      let typed : List Fault = when (is_ill_typed r (typing_of scope e)) (fault_at (line_of e) (token_of e) C9) in
+      let place : List Fault = when (is_wrong_place r e (typing_of scope e)) (fault_at (line_of e) (token_of e) C10) in
+      when_not (is_wrong_place r e (typing_of scope e)) (fault_at (line_of e) (token_of e) C10)
+      (quiet_left place (own_faults texts around scope r e) (quiet_right typed (place ++ own_faults texts around scope r e) quiet))
+
   pub name_quiet : (l k : ℕ) (id : NameId) → expression_faults texts around scope r (name l k id) ≡ []
       → (is_undeclared (meaning_of scope id) ≡ false) × ((is_simd around && is_free_pointer r (meaning_of scope id)) ≡ false)
   name_quiet l k id quiet =
@@ -66,6 +74,17 @@ module _ (texts : List (List ℕ)) (around : Around) (scope : Scope) (r : Role) 
             (quiet_right object pointer (quiet_right long (object ++ pointer) (quiet_right unknown (long ++ (object ++ pointer)) own))),
       )
 
+pub object_quiet : (texts : List (List ℕ)) (around : Around) (scope : Scope) (r : Role) (l k : ℕ) (id : NameId) → expression_faults texts around scope r (name l k id) ≡ []
+    → (is_simd around && is_changing (meaning_of scope id)) ≡ false
+object_quiet texts around scope r l k id quiet =
+    let m = meaning_of scope id in
+    let unknown : List Fault = when (is_undeclared m) (fault_at l k C8) in
+    let long : List Fault = when (is_long texts id) (fault_at l k C16) in
+    let object : List Fault = when (is_simd around && is_changing m) (fault_with l k D15 around.directive) in
+    let pointer : List Fault = when (is_simd around && is_free_pointer r m) (fault_with l k D16 around.directive) in
+    when_not (is_simd around && is_changing m) (fault_with l k D15 around.directive)
+    (quiet_left object pointer (quiet_right long (object ++ pointer) (quiet_right unknown (long ++ (object ++ pointer)) (own_quiet texts around scope r (name l k id) quiet))))
+
 pub called_quiet : (texts : List (List ℕ)) (around : Around) (scope : Scope) (l k : ℕ) (id : NameId) (arguments : Trees) → called_faults texts around scope l k id arguments ≡ []
     → is_undeclared (meaning_of scope id) ≡ false
 unfolding called_faults call_faults
@@ -75,6 +94,28 @@ called_quiet texts around scope l k id arguments quiet =
     let long : List Fault = when (is_long texts id) (fault_at l k C16) in
     let plain : List Fault = when (is_simd around && is_plain_function m) (fault_with l k D15 around.directive) in
     when_not (is_undeclared m) (fault_at l k C8) (quiet_left (when (is_undeclared m) (fault_at l k C8)) (wrong ++ (long ++ plain)) quiet)
+
+pub call_quiet : (texts : List (List ℕ)) (around : Around) (scope : Scope) (l k : ℕ) (id : NameId) (arguments : Trees) → called_faults texts around scope l k id arguments ≡ []
+    → is_wrong_call (meaning_of scope id) (typings_of scope arguments) ≡ false
+unfolding called_faults call_faults
+call_quiet texts around scope l k id arguments quiet =
+    let m = meaning_of scope id in
+    let wrong : List Fault = when (is_wrong_call m (typings_of scope arguments)) (fault_at l k C9) in
+    let long : List Fault = when (is_long texts id) (fault_at l k C16) in
+    let plain : List Fault = when (is_simd around && is_plain_function m) (fault_with l k D15 around.directive) in
+    when_not (is_wrong_call m (typings_of scope arguments)) (fault_at l k C9)
+    (quiet_left wrong (long ++ plain) (quiet_right (when (is_undeclared m) (fault_at l k C8)) (wrong ++ (long ++ plain)) quiet))
+
+pub plain_quiet : (texts : List (List ℕ)) (around : Around) (scope : Scope) (l k : ℕ) (id : NameId) (arguments : Trees) → called_faults texts around scope l k id arguments ≡ []
+    → (is_simd around && is_plain_function (meaning_of scope id)) ≡ false
+unfolding called_faults call_faults
+plain_quiet texts around scope l k id arguments quiet =
+    let m = meaning_of scope id in
+    let wrong : List Fault = when (is_wrong_call m (typings_of scope arguments)) (fault_at l k C9) in
+    let long : List Fault = when (is_long texts id) (fault_at l k C16) in
+    let plain : List Fault = when (is_simd around && is_plain_function m) (fault_with l k D15 around.directive) in
+    when_not (is_simd around && is_plain_function m) (fault_with l k D15 around.directive)
+    (quiet_right long plain (quiet_right wrong (long ++ plain) (quiet_right (when (is_undeclared m) (fault_at l k C8)) (wrong ++ (long ++ plain)) quiet)))
 
 pub there : (m : Option Meaning) → is_undeclared m ≡ false → is_some m ≡ true
 there None e = cc

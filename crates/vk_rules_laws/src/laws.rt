@@ -1,19 +1,23 @@
 // What holds of units that break no rule.
 
-ghost use Rattle.std.specs.Prelude.{◌≡◌, ◌≤◌, ℕ, List, [], ◌∷◌, Contains, Some, length, true, false, is_some};
+ghost use Rattle.std.specs.Prelude.{◌≡◌, ◌≤◌, ◌+◌, ℕ, List, [], ◌∷◌, Contains, Some, length, true, false, is_some};
+ghost use Rattle.std.specs.List.{list_any};
 ghost use Rattle.vk_ast.specs.declared.names.NameId.{NameId};
 ghost use Rattle.vk_ast.specs.Directives.{DirectiveTree};
 ghost use Rattle.vk_ast.specs.Tree.{Tree, Trees, name};
-ghost use Rattle.vk_ast.specs.Units.{FunctionTree, ItemTree, function};
+ghost use Rattle.vk_ast.specs.Statements.{StmtTree};
+ghost use Rattle.vk_ast.specs.Units.{FunctionTree, ItemTree, ObjectTree, function, object, function_nodes};
 ghost use Rattle.vk_rules_book.specs.declared.contexts.Around.{Around};
 ghost use Rattle.vk_rules_book.specs.declared.contexts.Role.{Role};
-ghost use Rattle.vk_rules_book.specs.Directives.{has_signature, is_no_width, repeats_a_name};
+ghost use Rattle.vk_rules_book.specs.Directives.{has_other_directives, has_signature, is_no_width, repeats_a_name};
 ghost use Rattle.vk_rules_book.specs.Expressions.{is_simd, is_written_parameter, lets_written};
+ghost use Rattle.vk_rules_book.specs.Items.{agrees, costs, defines, locals_of};
 ghost use Rattle.vk_rules_book.specs.Rules.{Subject, faults_at, faults_of};
-ghost use Rattle.vk_rules_book.specs.Scopes.{Scope, meaning_of};
+ghost use Rattle.vk_rules_book.specs.Scopes.{Scope, first_declaration, meaning_of};
 ghost use Rattle.vk_rules_book.specs.Signatures.{head_of, signature_of};
 ghost use Rattle.vk_rules_book.specs.Typings.{is_typed, takes_typed, typing_of};
-ghost use Rattle.vk_rules_book.specs.Visits.{Visit, called, directive, expression, unit_visits};
+ghost use Rattle.vk_rules_laws.specs.Grammatical.{HasGrammarTypes};
+ghost use Rattle.vk_rules_book.specs.Visits.{Visit, called, directive, directives, expression, item, unit_visits};
 
 /// No rule is broken at any visit.
 pub fn no_fault()
@@ -26,6 +30,12 @@ pub fn names_are_declared()
         Contains (unit_visits unit.texts unit.items) (expression around scope r (name line token id)) → is_some (meaning_of scope id) ≡ true }
     ensures calls { (unit : Subject) → faults_of unit ≡ [] → (around : Around) (scope : Scope) (line token : ℕ) (id : NameId) (arguments : Trees) →
         Contains (unit_visits unit.texts unit.items) (called around scope line token id arguments) → is_some (meaning_of scope id) ≡ true }
+{}
+
+/// Each expression that is visited has a type, where the items have the types that the grammar gives.
+pub fn expressions_have_types()
+    ensures { (unit : Subject) → HasGrammarTypes unit.items → faults_of unit ≡ [] → (around : Around) (scope : Scope) (r : Role) (e : Tree) →
+        Contains (unit_visits unit.texts unit.items) (expression around scope r e) → is_typed (typing_of scope e) ≡ true }
 {}
 
 /// An expression that has a type has one that its place takes.
@@ -58,4 +68,31 @@ pub fn functions_fit()
     ensures parameters { (unit : Subject) → faults_of unit ≡ [] → (f : FunctionTree) → Contains unit.items (function f) → length f.params ≤ 64 }
     ensures directives { (unit : Subject) → faults_of unit ≡ [] → (f : FunctionTree) → Contains unit.items (function f) →
         (d : DirectiveTree) → Contains f.directives d → has_signature f d ≡ true }
+{}
+
+/// The sum over the functions that a unit declares of their nodes and those of their variants is at most 40000.
+pub fn costs_fit()
+    ensures { (unit : Subject) → faults_of unit ≡ [] → costs unit.texts unit.items [] unit.items ≤ 40000 }
+{}
+
+/// The definition of a function has at most 512 parameters and local variables, and at most 2000 nodes.
+pub fn definitions_fit()
+    ensures variables { (unit : Subject) → faults_of unit ≡ [] → (f : FunctionTree) → Contains unit.items (function f) →
+        (body : StmtTree) → f.body ≡ Some body → length f.params + locals_of body ≤ 512 }
+    ensures nodes { (unit : Subject) → faults_of unit ≡ [] → (f : FunctionTree) → Contains unit.items (function f) →
+        (body : StmtTree) → f.body ≡ Some body → function_nodes f ≤ 2000 }
+{}
+
+/// What is declared again is of the same kind, types, `const` and length as its first declaration, and a function is defined once.
+pub fn declarations_agree()
+    ensures functions { (unit : Subject) → faults_of unit ≡ [] → (before : List ItemTree) (f : FunctionTree) →
+        Contains (unit_visits unit.texts unit.items) (item before (function f)) →
+        (first : ItemTree) → first_declaration before f.name ≡ Some first → agrees first (function f) ≡ true }
+    ensures objects { (unit : Subject) → faults_of unit ≡ [] → (before : List ItemTree) (o : ObjectTree) →
+        Contains (unit_visits unit.texts unit.items) (item before (object o)) →
+        (first : ItemTree) → first_declaration before o.name ≡ Some first → agrees first (object o) ≡ true }
+    ensures once { (unit : Subject) → faults_of unit ≡ [] → (before : List ItemTree) (f : FunctionTree) →
+        Contains (unit_visits unit.texts unit.items) (item before (function f)) → is_some f.body ≡ true → list_any (defines f.name) before ≡ false }
+    ensures directives { (unit : Subject) → faults_of unit ≡ [] → (before : List ItemTree) (f : FunctionTree) →
+        Contains (unit_visits unit.texts unit.items) (directives before f) → has_other_directives (first_declaration before f.name) f ≡ false }
 {}

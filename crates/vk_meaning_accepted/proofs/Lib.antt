@@ -1,0 +1,6 @@
+mod LaneScopes
+mod Tame
+mod Expressions
+mod Statements
+mod Definitions
+mod Programs
