@@ -16,8 +16,9 @@ ghost use Rattle.vk_meaning_terms.specs.Ranges.{HasWords, IsNumberOf};
 ghost use Rattle.vk_meaning_laws.specs.Reach.{AgreeOn, CoversReach, EndAlikeOn, IsIn, IsUndisturbed, behind_events};
 ghost use Rattle.vk_meaning_laws.specs.Tame.{ConstsAreFixed, IsLaneFunction, IsTameProgram};
 
-/// A call of a tame function looks at no cell but those that its pointers let it look at and those of `const` objects: from memories
-/// that have the same words there it gives the same value or stop and the same events, and leaves the same words there.
+/// A call of a tame function looks at no cell but those that its pointers let it look at, those of `const` objects, and those of arrays
+/// that are not there: from memories that have the same words in these it gives the same value or stop and the same events, and leaves
+/// the same words there.
 pub fn reads_within_reach()
     ensures { (units : List Subject) (lane : List ℕ → Bool) (turns : ℕ) → IsTameProgram units lane → ConstsAreFixed units lane
         → (text : List ℕ) (d : Definition) → IsLaneFunction units lane text d → (ds : List Datum) (cells : ℕ → ℕ → Bool)
