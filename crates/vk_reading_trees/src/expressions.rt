@@ -1,0 +1,2 @@
+// Expressions.
+pub fn evaluate() {}

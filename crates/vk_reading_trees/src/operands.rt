@@ -1,0 +1,1 @@
+// What is done with operands that were evaluated.
