@@ -4,7 +4,7 @@ use Rattle.vk_types.specs.declared.types.Stop.{Stop}
 use Rattle.vk_io.specs.Counts.{Rose}
 use Rattle.vk_io.specs.Sink.{SinkState, GrowsWithin, Stays}
 use Rattle.vk_meaning.specs.World.{Array, Event, World}
-use Rattle.vk_meaning.specs.Data.{Datum, number_in, Value, got, halts, with_value, Action}
+use Rattle.vk_meaning.specs.Data.{Datum, number_in, Value, got, halts, Action, and_then}
 use Rattle.vk_meaning.specs.Meaning.{line_of, printed_numbers, world_of}
 use Rattle.vk_meaning.specs.declared.reading.RunFail.{RunFail}
 use Rattle.vk_meaning.specs.declared.reading.RunFail.TheVariants.{Write, Memory}
@@ -63,9 +63,9 @@ pub record Does (arrays : List Array) (before : Run) (action : Action) (now : Ru
 pub record Adds (action : Action) : Type 0 where
   pub adds : (w : World) → AreFirst w.events (world_of (action w)).events
 
--- the code goes on from a result with the next action
-pub record GoesOn (result : Result Held Halt) (next : Datum → Action) (end : Result Held Halt) : Type 0 where
-  pub goes : (arrays : List Array) (before now : Run) (first : Action) → Does arrays before first now result → Does arrays before (λ w. with_value (first w) next) now end
+-- The code goes on from a result with the next action, which changes nothing that the reader holds.
+pub record GoesOn (arrays : List Array) (now : Run) (result : Result Held Halt) (next : Datum → Action) (end : Result Held Halt) : Type 0 where
+  pub goes : (before : Run) (first : Action) → Does arrays before first now result → Does arrays before (and_then first next) now end
 
 -- a value or a stop, as an evaluation answers it
 abbrev pub settled : Result Held Stop → Result Held Halt
