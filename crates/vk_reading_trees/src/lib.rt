@@ -5,6 +5,7 @@
 
 pub mod calls;
 pub mod expressions;
+pub mod names;
 pub mod operands;
 pub mod setting;
 pub mod typing;
