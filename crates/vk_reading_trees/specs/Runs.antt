@@ -71,3 +71,12 @@ pub record GoesOn (arrays : List Array) (now : Run) (result : Result Held Halt) 
 abbrev pub settled : Result Held Stop → Result Held Halt
 settled (Ok h) = Ok h
 settled (Err stop) = Err (Halted stop)
+
+-- Arguments were evaluated: what is done with them then is done behind all of it; or they ended it.
+abbrev pub IsPassed : List Array → (before : Run) → Action → (now : Run) → (after : Action) → Result (Unit {0}) Halt → Type 0
+IsPassed arrays before action now after (Ok done) = (end : Run) (r : Result Held Halt) → Does arrays now after end r → Does arrays before action end r
+IsPassed arrays before action now after (Err halt) = Does arrays before action now (Err halt)
+
+-- the same for whatever is done with the data of the arguments
+pub record DoesArguments (arrays : List Array) (before : Run) (action : (List Datum → Action) → Action) (now : Run) (given : List Datum) (result : Result (Unit {0}) Halt) : Type 0 where
+  pub passes : (next : List Datum → Action) → ((ds : List Datum) → Adds (next ds)) → IsPassed arrays before (action next) now (next given) result

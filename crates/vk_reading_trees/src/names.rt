@@ -1,10 +1,12 @@
 // Names as expressions.
 
-ghost use Rattle.std.specs.Prelude.{◌≡◌, IfOk, List, pos};
+ghost use Rattle.std.specs.Prelude.{◌≡◌, IfOk, List, drop, pos};
 ghost use Rattle.vk_ast.specs.declared.names.NameId.{NameId};
 ghost use Rattle.vk_meaning.specs.World.{Array, Event};
 ghost use Rattle.vk_meaning.specs.Data.{Action, Datum, pointer};
 ghost use Rattle.vk_meaning.specs.Expressions.{name_value, object_value};
+ghost use Rattle.vk_rules_book.specs.Typings.{wanted_types};
+ghost use Rattle.vk_meaning.specs.Types.{next_type};
 ghost use Rattle.vk_meaning.specs.Points.{variable_named};
 ghost use Rattle.vk_reading.specs.Cells.{AreRowsOf, HaveWords, memory_in};
 ghost use Rattle.vk_reading.specs.Held.{IsHeld, datum_of, value_in};
@@ -16,6 +18,7 @@ ghost use Rattle.vk_reading_trees.specs.Settings.{AreHeld, context_in, number_in
 use crate::operands::settled;
 use crate::setting::Place;
 use vk_ast::NameId;
+use vk_kinds::CType;
 use vk_reading::variables::variable_among;
 use vk_reading::{Cells, Halt, Held};
 use vk_rules_names::Known;
@@ -44,14 +47,14 @@ fn value_at(values: &[Held], number: usize) -> Held
 }
 
 // An object of file scope: the number in a scalar, or a pointer to the first element of an array.
-fn object_of(cells: &Cells, array: u32, known: Known) -> Result<Held, Stop>
+fn object_of(cells: &Cells, array: u32, known: &Known) -> Result<Held, Stop>
     requires { HaveWords cells.now.rows.items }
     ensures value { (arrays : List Array) (events : List Event) → AreRowsOf cells.now.rows.items arrays
         → value_in result (record { memory = memory_in cells.now.rows.items; events = events })
-        ≡ object_value arrays array (meaning_seen known) (record { memory = memory_in cells.now.rows.items; events = events }) }
+        ≡ object_value arrays array (meaning_seen known.now) (record { memory = memory_in cells.now.rows.items; events = events }) }
     ensures held { IfOk result IsHeld }
 {
-    match known {
+    match *known {
         Known::Object {
             ty,
             is_array,
@@ -86,7 +89,8 @@ fn name_held(cells: &Cells, place: &Place, id: NameId) -> Result<Held, Stop>
 {
     let Some(variable) = variable_among(0, place.scopes.inner, id) else {
         let array = number_of(place.setting.numbers, id);
-        return object_of(cells, array, place.scopes.meaning(id));
+        let known = place.scopes.meaning(id);
+        return object_of(cells, array, &known);
     };
     Ok(value_at(place.values, variable.number))
 }
@@ -113,5 +117,15 @@ pub fn address_of_name(place: &Place, id: NameId) -> Held
         to: vk_types::Ty::I32,
         array: number_of(place.setting.numbers, id),
         offset: 0,
+    }
+}
+
+/// The type of the parameter that an argument with this number is for, void where there is none.
+pub fn wanted_type(known: &Known, number: usize) -> CType
+    ensures { result ≡ next_type (drop number (wanted_types (meaning_seen known.now))) }
+{
+    match known.wanted(number) {
+        Some(ctype) => ctype,
+        None => CType::Void,
     }
 }

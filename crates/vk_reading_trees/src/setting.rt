@@ -1,5 +1,6 @@
 // What a body needs of the program that it stands in.
 
+use std::alloc::Global;
 use vk_kinds::CType;
 use vk_reading::Held;
 use vk_rules_names::Scopes;
@@ -19,6 +20,7 @@ pub struct Setting<'a> {
 /// A place in a body: what is declared there, and what the variables have.
 #[derive(Clone, Copy)]
 pub struct Place<'a> {
+    pub alloc: Global,
     pub setting: Setting<'a>,
     pub scopes: Scopes<'a>,
     /// The values of the parameters and local variables, by their numbers.
