@@ -33,12 +33,12 @@ fn shifted(op: Op2, t: Ty, x: Typed, y: Typed) -> Result<Word, Stop>
 }
 
 // `!e` is `0 == e` (C17 6.5.3.3).
-fn logical_not(x: Typed) -> Result<Word, Stop>
+fn logical_not(s: Ty, x: Typed) -> Result<Word, Stop>
     requires { IsCanonical x.ty x.word.0 }
-    ensures number { HasNumber I32 result (unary_number LogNot x.ty (number_of x.ty x.word.0)) }
+    ensures number { HasNumber I32 result (unary_number LogNot s (number_of x.ty x.word.0)) }
     ensures canonical { IfOk result (λ w. IsCanonical I32 w.0) }
 {
-    let t = promote(x.ty);
+    let t = promote(s);
     op2(
         Op2::Eq,
         t,
@@ -48,18 +48,18 @@ fn logical_not(x: Typed) -> Result<Word, Stop>
     )
 }
 
-/// The word of `op x`, one of the type `unary_type op x.ty` (C17 6.5.3.3).
-pub fn unary(op: UnOp, x: Typed) -> Result<Word, Stop>
+/// The word of `op x` for an operand of the type `s`, one of the type `unary_type op s` (C17 6.5.3.3).
+pub fn unary(op: UnOp, s: Ty, x: Typed) -> Result<Word, Stop>
     requires { IsCanonical x.ty x.word.0 }
-    ensures number { HasNumber (unary_type op x.ty) result (unary_number op x.ty (number_of x.ty x.word.0)) }
-    ensures canonical { IfOk result (λ w. IsCanonical (unary_type op x.ty) w.0) }
+    ensures number { HasNumber (unary_type op s) result (unary_number op s (number_of x.ty x.word.0)) }
+    ensures canonical { IfOk result (λ w. IsCanonical (unary_type op s) w.0) }
 {
-    let t = promote(x.ty);
+    let t = promote(s);
     match op {
         UnOp::Plus => Ok(convert(x.ty, t, x.word)),
         UnOp::Neg => Ok(op1(Op1::Neg, t, convert(x.ty, t, x.word))),
         UnOp::Not => Ok(op1(Op1::Not, t, convert(x.ty, t, x.word))),
-        UnOp::LogNot => logical_not(x),
+        UnOp::LogNot => logical_not(s, x),
     }
 }
 
@@ -72,15 +72,16 @@ fn truth(x: Typed) -> Word
     wrap(Ty::I32, i128::from(is_on(x)))
 }
 
-/// The word of `x op y`, one of the type `binary_type op x.ty y.ty`, where both operands were evaluated (C17 6.5.5 to 6.5.14): of `&&`
-/// and `||` where the first operand does not decide. It stops where a division has the divisor 0.
-pub fn binary(op: BinOp, x: Typed, y: Typed) -> Result<Word, Stop>
+/// The word of `x op y` for operands of the types `s` and `t`, one of the type `binary_type op s t`, where both were evaluated (C17 6.5.5
+/// to 6.5.14): of `&&` and `||` where the first operand does not decide. It stops where a division has the divisor 0.
+pub fn binary(op: BinOp, s: Ty, t: Ty, x: Typed, y: Typed) -> Result<Word, Stop>
     requires left { IsCanonical x.ty x.word.0 }
     requires right { IsCanonical y.ty y.word.0 }
-    ensures number { HasNumber (binary_type op x.ty y.ty) result (binary_number op x.ty y.ty (number_of x.ty x.word.0) (number_of y.ty y.word.0)) }
-    ensures canonical { IfOk result (λ w. IsCanonical (binary_type op x.ty y.ty) w.0) }
+    ensures number { HasNumber (binary_type op s t) result (binary_number op s t (number_of x.ty x.word.0) (number_of y.ty y.word.0)) }
+    ensures canonical { IfOk result (λ w. IsCanonical (binary_type op s t) w.0) }
 {
-    let t = common(x.ty, y.ty);
+    let own = promote(s);
+    let t = common(s, t);
     match op {
         BinOp::Add => in_type(Op2::Add, t, x, y),
         BinOp::Sub => in_type(Op2::Sub, t, x, y),
@@ -90,8 +91,8 @@ pub fn binary(op: BinOp, x: Typed, y: Typed) -> Result<Word, Stop>
         BinOp::And => in_type(Op2::And, t, x, y),
         BinOp::Or => in_type(Op2::Or, t, x, y),
         BinOp::Xor => in_type(Op2::Xor, t, x, y),
-        BinOp::Shl => shifted(Op2::Shl, promote(x.ty), x, y),
-        BinOp::Shr => shifted(Op2::Shr, promote(x.ty), x, y),
+        BinOp::Shl => shifted(Op2::Shl, own, x, y),
+        BinOp::Shr => shifted(Op2::Shr, own, x, y),
         BinOp::Eq => in_type(Op2::Eq, t, x, y),
         BinOp::Ne => in_type(Op2::Ne, t, x, y),
         BinOp::Lt => in_type(Op2::Lt, t, x, y),
