@@ -1,0 +1,6 @@
+//! Reads objects field by field.
+#![tactic(auto)]
+
+pub mod data;
+
+pub use data::DataFeed;
