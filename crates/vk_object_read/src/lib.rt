@@ -2,5 +2,8 @@
 #![tactic(auto)]
 
 pub mod data;
+pub mod directives;
+pub mod function;
 
 pub use data::DataFeed;
+pub use function::FunctionFeed;
