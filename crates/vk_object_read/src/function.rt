@@ -18,7 +18,7 @@ ghost use Rattle.vk_object_read.specs.Inner.LeftData.{Settles};
 ghost use Rattle.vk_object_read.specs.Inner.LeftFunction.{after_codes, after_directives, after_lanes, after_params, after_types, function_left, function_width, param_after, place_of_codes, type_next};
 
 use crate::data::comes_after;
-use crate::directives::is_directive_after;
+
 use std::alloc::Global;
 use std::mem;
 use vk_code_format::{CodeRow, ParamKind, ParamRow, RoutineRow};
@@ -29,6 +29,8 @@ use vk_code_read::{CodeFeed, CodePlace, FrontFeed};
 use vk_format::fields::{u8_of, u16_of, u32_of};
 use vk_format::{Items, ObjectFail, ObjectRule};
 use vk_kinds::{Branch, CType, Head, Target, Types};
+use vk_memory::Memory;
+use vk_object_directives::is_directive_after;
 use vk_object_fields::fields::{branch_of, result_type_of};
 use vk_object_fields::parameters::{
     align_fits, align_of, kind_fits, param_kind_of, value_fits,
@@ -98,12 +100,13 @@ fn no_directive(alloc: Global) -> RawDirective {
 fn row_of(code: CodeFeed) -> CodeRow
     ensures { result ≡ code_row code.front.front code.loops code.instrs }
 {
+    let feed = code.front;
+    let instrs = code.instrs;
+    let loops = code.loops;
+    let front = feed.front;
     CodeRow {
-        routine: RoutineRow {
-            front: code.front.front,
-            instrs: code.instrs,
-        },
-        loops: code.loops,
+        routine: RoutineRow { front, instrs },
+        loops,
     }
 }
 
@@ -205,7 +208,7 @@ impl FunctionFeed {
     }
 
     // Whether the directive may stand behind those before it.
-    fn fits(&self) -> Result<bool, ObjectFail>
+    fn fits(&self) -> Result<bool, Memory>
         ensures { IfOk result (λ fits. fits ≡ is_directive_after self.now.target (head_of self.now.function) self.now.function.directives self.now.directive) }
     {
         match head_of(&self.function) {
@@ -216,7 +219,7 @@ impl FunctionFeed {
                 &self.directive,
             )),
             // Does not come: there are at most 64 parameters.
-            None => Err(ObjectFail::Memory),
+            None => Err(Memory),
         }
     }
 
@@ -249,14 +252,13 @@ impl FunctionFeed {
         Ok(())
     }
 
-    // The next code comes.
-    fn begin_code<R>(&mut self)
-        ensures same { self.new ≡ record self.old { code = self.new.code } }
-        ensures code { (at : ℕ) (next : CodeRow → ℕ → Format R) → code_left self.new.code at next ≡ (code (place_of_codes self.old.functions self.old.function)).read at next }
+    // A code of the function, of which nothing has come.
+    fn code_feed<R>(&self) -> CodeFeed
+        ensures { (at : ℕ) (next : CodeRow → ℕ → Format R) → code_left result at next ≡ (code (place_of_codes self.now.functions self.now.function)).read at next }
     {
         let functions = self.functions;
-        let params = self.function.params.as_slice().len();
-        self.code = CodeFeed::new::<R>(self.alloc, CodePlace::Object { functions, params });
+        let params = self.function.params.len();
+        CodeFeed::new::<R>(self.alloc, CodePlace::Object { functions, params })
     }
 
     // So many codes of directives are left.
@@ -265,7 +267,7 @@ impl FunctionFeed {
             ≡ read_after (λ before. code (place_of_codes self.old.functions self.old.function)) left self.old.lanes at (after_lanes self.old.function self.old.scalar next) }
     {
         if left != 0 {
-            self.begin_code::<R>();
+            self.code = self.code_feed::<R>();
             self.stage = FunctionStage::Lane(left - 1);
             return;
         }
@@ -291,7 +293,7 @@ impl FunctionFeed {
             let code = mem::replace(&mut self.code, none);
             self.scalar = row_of(code);
             self.lanes = Items::new(self.alloc);
-            let left = self.function.directives.as_slice().len();
+            let left = self.function.directives.len();
             self.lanes::<R>(left);
         }
         Ok(())
@@ -323,7 +325,7 @@ impl FunctionFeed {
             ≡ (only_if defined (function_codes (place_of_codes self.old.functions self.old.function) (length self.old.function.directives))).read at (after_codes self.old.function next) }
     {
         if defined {
-            self.begin_code::<R>();
+            self.code = self.code_feed::<R>();
             self.stage = FunctionStage::Scalar;
         } else {
             self.function.codes = None;
@@ -390,7 +392,7 @@ impl FunctionFeed {
                 }
                 self.directive.simdlen = simdlen;
                 self.directive.params = Items::new(self.alloc);
-                let params = self.function.params.as_slice().len();
+                let params = self.function.params.len();
                 match self.params::<R>(left, params) {
                     Err(fail) => return Err(fail),
                     Ok(()) => {}
@@ -445,7 +447,7 @@ impl FunctionFeed {
         ensures { result ≡ type_next self.now.function self.now.directive }
     {
         let types = self.function.params.as_slice();
-        let at = self.directive.params.as_slice().len();
+        let at = self.directive.params.len();
         types.get(at).copied()
     }
 }

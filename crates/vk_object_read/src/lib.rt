@@ -2,8 +2,9 @@
 #![tactic(auto)]
 
 pub mod data;
-pub mod directives;
 pub mod function;
+pub mod object;
 
 pub use data::DataFeed;
 pub use function::FunctionFeed;
+pub use object::ObjectFields;
