@@ -18,7 +18,6 @@ ghost use Rattle.vk_object_read.specs.Inner.LeftData.{Settles};
 ghost use Rattle.vk_object_read.specs.Inner.LeftFunction.{after_codes, after_directives, after_lanes, after_params, after_types, function_left, function_width, param_after, place_of_codes, type_next};
 
 use crate::data::comes_after;
-
 use std::alloc::Global;
 use std::mem;
 use vk_code_format::{CodeRow, ParamKind, ParamRow, RoutineRow};
@@ -32,9 +31,7 @@ use vk_kinds::{Branch, CType, Head, Target, Types};
 use vk_memory::Memory;
 use vk_object_directives::is_directive_after;
 use vk_object_fields::fields::{branch_of, result_type_of};
-use vk_object_fields::parameters::{
-    align_fits, align_of, kind_fits, param_kind_of, value_fits,
-};
+use vk_object_fields::parameters::{align_fits, align_of, kind_fits, param_kind_of, value_fits};
 use vk_object_format::{RawCodes, RawDirective, RawFunction};
 
 /// Which field comes next. Counts of what is left are without the item that the field belongs to.

@@ -9,7 +9,7 @@ returns-in-Err g c = λ next.
     let d = c.args.self.now.data in
     let h = c.in-Err.ensures (c.args.at + 4) next in
     let passes : nat_le c.u32_of-given.result (cond d.defined d.length 0) ≡ true =
-      le-leb _ _ (omega (arith, c.if-room-given.false, c.room.ensures)) in
+    le-leb _ _ (omega (arith, c.if-room-given.false, c.room.ensures)) in
     rw (c.in-Given.is, ← c.u32_of-given.ensures.number, passes) (rw (c.new.ensures.empty) at h)
 
 pub returns-in-Err-elements : goal.returns-in-Err-elements

@@ -7,5 +7,12 @@ pub returns-in_ok-push : goal.returns-in_ok-push
 returns-in_ok-push g c = λ next.
     let s = c.args.self.now in
     let end = c.args.at + code_width s.code in
-    rw (c.requires.stage, c.in-Ok.ensures (after_lane s.functions s.function s.scalar s.lanes c.args.left next), c.in-Done.is, c.lanes.ensures end next,
-      c.in_ok-push.ensures.ok, c.row_of.ensures, c.replace-code.ensures.value) refl
+    rw (
+      c.requires.stage,
+      c.in-Ok.ensures (after_lane s.functions s.function s.scalar s.lanes c.args.left next),
+      c.in-Done.is,
+      c.lanes.ensures end next,
+      c.in_ok-push.ensures.ok,
+      c.row_of.ensures,
+      c.replace-code.ensures.value,
+    ) refl

@@ -7,5 +7,13 @@ pub returns-in-Done : goal.returns-in-Done
 returns-in-Done g c = λ next.
     let s = c.args.self.now in
     let end = c.args.at + code_width s.code in
-    rw (c.requires.stage, c.in-Ok.ensures (after_scalar s.functions s.function next), c.in-Done.is, c.lanes.ensures end next,
-      c.len-left.ensures.length, c.row_of.ensures, c.replace-code.ensures.value, c.new.ensures.empty) refl
+    rw (
+      c.requires.stage,
+      c.in-Ok.ensures (after_scalar s.functions s.function next),
+      c.in-Done.is,
+      c.lanes.ensures end next,
+      c.len-left.ensures.length,
+      c.row_of.ensures,
+      c.replace-code.ensures.value,
+      c.new.ensures.empty,
+    ) refl

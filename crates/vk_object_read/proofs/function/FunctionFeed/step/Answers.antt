@@ -9,7 +9,7 @@ returns-in-Err g c = λ next.
     let h = c.in-Err.ensures (c.args.at + 2) next in
     let passes : is_good_simdlen c.simdlen_of-simdlen.result ≡ true = sym c.if-not-is_good_simdlen.ensures in
     rw (c.in-Simdlen.is, ← c.u16_of-in-Simdlen.ensures.number, ← c.simdlen_of-simdlen.ensures, passes)
-      (rw (c.new-in-Simdlen.ensures.empty, c.len-params.ensures.length) at h)
+    (rw (c.new-in-Simdlen.ensures.empty, c.len-params.ensures.length) at h)
 
 pub returns-in-Err-params : goal.returns-in-Err-params
 returns-in-Err-params g c = λ next.
