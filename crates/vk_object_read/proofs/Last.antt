@@ -8,3 +8,7 @@ last_at (x ∷ []) d h = refl
 last_at (x ∷ y ∷ ys) d h =
     let later : length (x ∷ y ∷ ys) - 1 ≡ suc (length (y ∷ ys) - 1) = omega arith in
     last_at (y ∷ ys) d (omega arith) ∙ ap (λ (n : ℕ). Some (get_or (x ∷ y ∷ ys) n d)) (sym later)
+
+-- an item that stands at the last place is the last one
+pub last_is : {A : Type 0} (xs : List A) (x : A) → 1 ≤ length xs → x ≡ get_or xs (length xs - 1) x → last_of xs ≡ Some x
+last_is {A = A} xs x h e = last_at xs x h ∙ ap (λ (y : A). Some y) (sym e)
