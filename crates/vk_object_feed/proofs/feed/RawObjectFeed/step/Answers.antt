@@ -11,7 +11,7 @@ returns-in-Err-clause-err c = λ more.
     let s = c.args.self.now in
     let f = rows_left s.fields s.at in
     rw (takes_field f (object_width s.fields) s.at c.args.field.now more (object_field s.fields s.at c.requires.wanted) c.requires.width)
-      (tells_fail c.in-Err.e (taken f c.args.field.now) (s.at + object_width s.fields) more (c.in-Err.ensures is_whole))
+    (tells_fail c.in-Err.e (taken f c.args.field.now) (s.at + object_width s.fields) more (c.in-Err.ensures is_whole))
 
 pub returns-in-Ok-clause-ok : goal.returns-in-Ok-clause-ok
 returns-in-Ok-clause-ok c = λ more.
