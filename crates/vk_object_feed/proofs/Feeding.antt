@@ -14,11 +14,11 @@ use Rattle.vk_object_read.specs.declared.object.ObjectStage.{ObjectStage}
 use Rattle.vk_object_read.specs.declared.object.ObjectStage.TheVariants as objects
 use Rattle.vk_code_read.specs.Inner.Left.{Fails, taken}
 use Rattle.vk_object_read.specs.declared.object.ObjectFields.{ObjectFields}
-use Rattle.vk_object_read.specs.Inner.LeftObject.{object_left_at, object_width, object_width_at}
+use Rattle.vk_object_read.specs.Inner.LeftObject.{object_left_at, object_width_at}
 use Rattle.vk_object_feed.proofs.Wanted.{IsField, object_field}
 use Rattle.vk_object_feed.specs.Feeds.{TellsFail, Stands, stands_by, onward, IsTold, IsRead}
 use Rattle.vk_object_feed.specs.declared.feed.RawObjectFeed.{RawObjectFeed}
-use Rattle.vk_object_feed.specs.Rows.{is_whole, rows_format, rows_left}
+use Rattle.vk_object_feed.specs.Rows.{is_whole, rows_format, rows_left, rows_width}
 
 -- a field that is whole is taken
 pub takes_field : {R : Type 0} (f : Format R) (width at : ℕ) (bytes more : List ℕ) → IsField f width → length bytes ≡ width
@@ -59,12 +59,17 @@ quiet f width at bytes e = ap (λ g. told (left g at bytes)) e ∙ quiet_field w
 -- ---- nothing is wanted
 
 pub done_is : (s : ObjectFields) (at : ℕ) → s.stage ≡ objects.Done → rows_left s at ≡ Whole s.object
+unfolding rows_left
 done_is s at e = ap (λ st. object_left_at st s at) e
 
-module _ (s : ObjectFields) (at : ℕ) (pending : List ℕ) (done : s.stage ≡ objects.Done) (fits : length pending ≤ object_width s - 1) where
+done_width : (s : ObjectFields) → s.stage ≡ objects.Done → rows_width s ≡ 0
+unfolding rows_width
+done_width s e = ap (λ st. object_width_at st s) e
+
+module _ (s : ObjectFields) (at : ℕ) (pending : List ℕ) (done : s.stage ≡ objects.Done) (fits : length pending ≤ rows_width s - 1) where
   pub none_pending : pending ≡ []
   none_pending =
-      let width : object_width s ≡ 0 = ap (λ st. object_width_at st s) done in
+      let width : rows_width s ≡ 0 = done_width s done in
       nil_from_length pending (omega (arith, fits, width))
 
   pub over_none : (bytes : List ℕ) → length bytes ≡ 0 → advance (rows_left s at) at (pending ++ bytes) ≡ left (rows_left s at) at pending
@@ -134,12 +139,12 @@ judge_short : {R : Type 0} (width : ℕ) (next : List ℕ → Format R) (at : �
 unfolding judge
 judge_short width next at bytes lt = rw (lt-ltb _ _ lt) refl
 
-pub ends_short : (f : RawObjectFeed) (bytes : List ℕ) → f.failed ≡ None → 0 < object_width f.fields → Stands f bytes → judge rows_format 0 bytes ≡ Err (fault (f.at + length f.pending.items) O4)
+pub ends_short : (f : RawObjectFeed) (bytes : List ℕ) → f.failed ≡ None → 0 < rows_width f.fields → Stands f bytes → judge rows_format 0 bytes ≡ Err (fault (f.at + length f.pending.items) O4)
 ends_short f bytes is wide h =
-    let lt : length f.pending.items < object_width f.fields = omega (arith, f.fits, wide) in
+    let lt : length f.pending.items < rows_width f.fields = omega (arith, f.fits, wide) in
     judge_left f bytes is h
     ∙ ap (λ g. judge g f.at f.pending.items) (object_field f.fields f.at wide)
-    ∙ judge_short (object_width f.fields) (taken (rows_left f.fields f.at)) f.at f.pending.items lt
+    ∙ judge_short (rows_width f.fields) (taken (rows_left f.fields f.at)) f.at f.pending.items lt
 
 goes_on : (f : RawObjectFeed) (bytes piece : List ℕ) → f.failed ≡ None → Stands f bytes → advance rows_format 0 (bytes ++ piece) ≡ onward f piece
 unfolding more

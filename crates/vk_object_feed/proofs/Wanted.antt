@@ -29,8 +29,8 @@ use Rattle.vk_object_read.specs.declared.object.ObjectStage.{ObjectStage}
 use Rattle.vk_object_read.specs.declared.object.ObjectStage.TheVariants as objects
 use Rattle.vk_object_read.specs.Inner.LeftData.{data_left_at, data_width_at}
 use Rattle.vk_object_read.specs.Inner.LeftFunction.{after_lane, after_scalar, function_left_at, function_width_at}
-use Rattle.vk_object_read.specs.Inner.LeftObject.{after_data, after_function, object_left_at, object_width, object_width_at}
-use Rattle.vk_object_feed.specs.Rows.{is_whole, rows_left}
+use Rattle.vk_object_read.specs.Inner.LeftObject.{after_data, after_function, object_left_at, object_width_at}
+use Rattle.vk_object_feed.specs.Rows.{is_whole, rows_left, rows_width}
 
 -- a field of so many bytes is wanted
 abbrev pub IsField : {R : Type 0} → Format R → ℕ → Type 0
@@ -128,5 +128,6 @@ object_field_at objects.FunctionCount s at h = refl
 object_field_at (objects.Function left) s at h = function_field s.function.stage s.function at (after_function s.object s.functions left is_whole) h
 object_field_at objects.Done s at h = absurd (omega (arith, h))
 
-pub object_field : (s : ObjectFields) (at : ℕ) → 0 < object_width s → IsField (rows_left s at) (object_width s)
+pub object_field : (s : ObjectFields) (at : ℕ) → 0 < rows_width s → IsField (rows_left s at) (rows_width s)
+unfolding rows_left rows_width
 object_field s at h = object_field_at s.stage s at h

@@ -4,15 +4,19 @@ use Rattle.vk_format.specs.Format.{Format, Whole}
 use Rattle.vk_object_format.specs.declared.rows.RawObject.{RawObject}
 use Rattle.vk_object_format.specs.Object.{object_table}
 use Rattle.vk_object_read.specs.declared.object.ObjectFields.{ObjectFields}
-use Rattle.vk_object_read.specs.Inner.LeftObject.{object_left}
+use Rattle.vk_object_read.specs.Inner.LeftObject.{object_left, object_width}
 
 abbrev pub is_whole : RawObject → ℕ → Format RawObject
 is_whole o end = Whole o
 
 -- what bytes are by the table of fields alone
-abbrev pub rows_format : Format RawObject
+unfoldable pub rows_format : Format RawObject
 rows_format = object_table.read 0 is_whole
 
 -- what is still wanted
-abbrev pub rows_left : ObjectFields → ℕ → Format RawObject
+unfoldable pub rows_left : ObjectFields → ℕ → Format RawObject
 rows_left s at = object_left s at is_whole
+
+-- the bytes of the field that comes next
+unfoldable pub rows_width : ObjectFields → ℕ
+rows_width s = object_width s

@@ -1,6 +1,7 @@
 // The tables of an object that comes in pieces.
-ghost use Rattle.std.specs.Prelude.{◌≡◌, ◌<◌, ◌≤◌, ◌^◌, ℕ, ◌-◌, length};
-ghost use Rattle.vk_object_read.specs.Inner.LeftObject.{object_width};
+ghost use Rattle.std.specs.Prelude.{◌≡◌, ◌<◌, ◌≤◌, ◌^◌, ◌+◌, ◌-◌, length};
+ghost use Rattle.vk_code_read.specs.Inner.Left.{Stepped};
+ghost use Rattle.vk_object_feed.specs.Rows.{rows_format, rows_left, rows_width};
 
 use std::alloc::Global;
 use std::mem;
@@ -19,13 +20,37 @@ pub struct RawObjectFeed {
     pub(crate) at: u64,
     pub(crate) pending: Vec<u8>,
     pub(crate) failed: Option<ObjectFail>,
-    ghost fits: { length pending.items ≤ object_width fields - 1 },
+    ghost fits: { length pending.items ≤ rows_width fields - 1 },
+}
+
+// Fields of which none has come.
+fn no_fields(alloc: Global) -> ObjectFields
+    ensures start { rows_left result 0 ≡ rows_format }
+{
+    ObjectFields::new::<RawObject>(alloc)
+}
+
+// How many bytes the next field has, 0 where none is wanted.
+#[tactic(auto, unfolding(crate::specs::Rows::rows_width))]
+fn next_width(fields: &ObjectFields) -> usize
+    ensures { result ≡ rows_width fields.now }
+{
+    fields.width()
+}
+
+// Takes the next field.
+fn take_next(fields: &mut ObjectFields, at: u64, field: &[u8]) -> Result<(), ObjectFail>
+    requires width { length field.now ≡ rows_width fields.old }
+    requires wanted { 0 < rows_width fields.old }
+    requires place { at + rows_width fields.old < 2 ^ 64 }
+    ensures { Stepped (rows_left fields.old at) field.now result (rows_left fields.new (at + rows_width fields.old)) }
+{
+    fields.step::<RawObject>(at, field)
 }
 
 impl RawObjectFeed {
     ghost use Rattle.std.specs.Prelude.{◌≡◌, ◌<◌, ◌≤◌, ◌^◌, ℕ, ◌+◌, [], ◌++◌, List, length, Some, None, true, Err, OnOk, IfErr, IfSome};
-    ghost use Rattle.vk_object_feed.specs.Rows.{rows_left};
-    ghost use Rattle.vk_object_read.specs.Inner.LeftObject.{object_width};
+    ghost use Rattle.vk_object_feed.specs.Rows.{rows_left, rows_width};
     ghost use Rattle.vk_format.specs.Format.{advance, told, left};
     ghost use Rattle.vk_format.specs.declared.rules.ObjectFail.TheVariants as ObjectFail;
     ghost use Rattle.vk_object_read.specs.declared.object.ObjectStage.TheVariants as ObjectStage;
@@ -39,7 +64,7 @@ impl RawObjectFeed {
     {
         RawObjectFeed {
             alloc,
-            fields: ObjectFields::new::<RawObject>(alloc),
+            fields: no_fields(alloc),
             at: 0,
             pending: Vec::new(alloc),
             failed: None,
@@ -49,8 +74,8 @@ impl RawObjectFeed {
     // The next field is whole.
     fn step(&mut self, field: &[u8]) -> Result<(), ObjectFail>
         requires empty { self.old.pending.items ≡ [] }
-        requires width { length field.now ≡ object_width self.old.fields }
-        requires wanted { 0 < object_width self.old.fields }
+        requires width { length field.now ≡ rows_width self.old.fields }
+        requires wanted { 0 < rows_width self.old.fields }
         requires place { self.old.at + length field.now < 2 ^ 64 }
         requires none { self.old.failed ≡ None }
         ensures ok { OnOk result ((more : List ℕ) → advance (rows_left self.old.fields self.old.at) self.old.at (field.now ++ more) ≡ onward self.new more) }
@@ -60,7 +85,7 @@ impl RawObjectFeed {
         ensures failed { IfErr result (λ e. self.new.failed ≡ Some e) }
         ensures err { IfErr result (λ e. (more : List ℕ) → TellsFail e (advance (rows_left self.old.fields self.old.at) self.old.at (field.now ++ more))) }
     {
-        match self.fields.step::<RawObject>(self.at, field) {
+        match take_next(&mut self.fields, self.at, field) {
             Err(e) => {
                 self.failed = Some(e);
                 Err(e)
@@ -74,9 +99,9 @@ impl RawObjectFeed {
 
     // The next field is whole with these bytes.
     fn take(&mut self, front: &[u8]) -> Result<(), ObjectFail>
-        requires width { length self.old.pending.items + length front.now ≡ object_width self.old.fields }
-        requires wanted { 0 < object_width self.old.fields }
-        requires place { self.old.at + object_width self.old.fields < 2 ^ 64 }
+        requires width { length self.old.pending.items + length front.now ≡ rows_width self.old.fields }
+        requires wanted { 0 < rows_width self.old.fields }
+        requires place { self.old.at + rows_width self.old.fields < 2 ^ 64 }
         requires none { self.old.failed ≡ None }
         ensures ok { OnOk result ((more : List ℕ) → onward self.old (front.now ++ more) ≡ onward self.new more) }
         ensures at { OnOk result (fed self.new ≡ fed self.old + length front.now) }
@@ -101,7 +126,7 @@ impl RawObjectFeed {
 
     // The next field is not whole with these bytes.
     fn keep(&mut self, bytes: &[u8]) -> Result<(), ObjectFail>
-        requires width { length self.old.pending.items + length bytes.now < object_width self.old.fields }
+        requires width { length self.old.pending.items + length bytes.now < rows_width self.old.fields }
         requires none { self.old.failed ≡ None }
         ensures ok { OnOk result (onward self.old bytes.now ≡ left (rows_left self.new.fields self.new.at) self.new.at self.new.pending.items) }
         ensures quiet { OnOk result (told (left (rows_left self.new.fields self.new.at) self.new.at self.new.pending.items) ≡ None) }
@@ -154,7 +179,7 @@ impl RawObjectFeed {
             if let ObjectStage::Done = self.fields.stage {
                 return self.left_over(rest);
             }
-            let width = self.fields.width();
+            let width = next_width(&self.fields);
             if width == 0 {
                 // Does not come: only `Done` wants nothing.
                 self.failed = Some(ObjectFail::Memory);
@@ -212,7 +237,7 @@ impl RawObjectFeed {
         if let ObjectStage::Done = self.fields.stage {
             return Ok(self.fields.object);
         }
-        if self.fields.width() == 0 {
+        if next_width(&self.fields) == 0 {
             // Does not come: only `Done` wants nothing.
             return Err(ObjectFail::Memory);
         }

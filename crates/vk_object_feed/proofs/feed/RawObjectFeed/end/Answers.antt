@@ -1,5 +1,5 @@
 use Rattle.std.proofs.Common.{◌≡◌, ◌+◌, ◌<◌, length, arith}
-use Rattle.vk_object_read.specs.Inner.LeftObject.{object_width}
+use Rattle.vk_object_feed.specs.Rows.{rows_width}
 use Rattle.vk_object_feed.proofs.Feeding.{ends_failed, ends_done, ends_short}
 use Rattle.vk_object_feed.proofs.feed.RawObjectFeed.end.Goals as goal
 
