@@ -52,7 +52,7 @@ function_done s left at bytes next f end after e h d g =
 -- and the next one comes
 pub function_next : {R : Type 0} (o : RawObject) (count m n left at : ℕ) (next : Behind RawObject R) → n ≡ length o.symbols → suc m ≡ left
     → (function o.target n count o.functions).read at (after_function o count m next)
-      ≡ read_after (function o.target (length o.symbols) count) left o.functions at (after_functions o next)
+    ≡ read_after (function o.target (length o.symbols) count) left o.functions at (after_functions o next)
 function_next o count m n left at next e1 e2 =
     ap (λ (k : ℕ). (function o.target k count o.functions).read at (after_function o count m next)) e1
     ∙ ap (λ (k : ℕ). read_after (function o.target (length o.symbols) count) k o.functions at (after_functions o next)) e2

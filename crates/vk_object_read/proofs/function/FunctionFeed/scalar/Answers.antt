@@ -13,6 +13,6 @@ returns-in-Done g c = λ next.
     let end = c.args.at + code_width s.code in
     let row : c.row_of.result ≡ whole = c.row_of.ensures ∙ ap (λ (d : CodeFeed). code_row d.front.front d.loops d.instrs) c.replace-code.ensures.value in
     scalar_done s c.args.at c.args.field.now next code end _ c.requires.stage
-      (c.in-Ok.ensures (after_scalar s.functions s.function next)) c.in-Done.is
-      (lanes_begin s.functions s.function whole c.row_of.result c.len-left.result c.new.result end next c.len-left.ensures.length c.new.ensures.empty row
-      ∙ sym (c.lanes.ensures end next))
+    (c.in-Ok.ensures (after_scalar s.functions s.function next)) c.in-Done.is
+    (lanes_begin s.functions s.function whole c.row_of.result c.len-left.result c.new.result end next c.len-left.ensures.length c.new.ensures.empty row
+    ∙ sym (c.lanes.ensures end next))

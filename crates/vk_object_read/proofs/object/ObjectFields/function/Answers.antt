@@ -15,6 +15,6 @@ returns-in_ok-push g c = λ next.
     let end = c.args.at + function_width s.function in
     let pushed = ap (λ (f : FunctionFeed). o.functions ++ f.function ∷ []) (sym c.replace-whole.ensures.value) ∙ sym c.in_ok-push.ensures.ok in
     function_done s c.args.left c.args.at c.args.field.now next c.step.new.self end _ c.requires.stage
-      (c.in-Ok.ensures (after_function o s.functions c.args.left next)) c.in-Done.is
-      (ap (λ (fs : List RawFunction). read_after (function o.target (length o.symbols) s.functions) c.args.left fs end (after_functions o next)) pushed
-      ∙ sym (c.functions.ensures end next))
+    (c.in-Ok.ensures (after_function o s.functions c.args.left next)) c.in-Done.is
+    (ap (λ (fs : List RawFunction). read_after (function o.target (length o.symbols) s.functions) c.args.left fs end (after_functions o next)) pushed
+    ∙ sym (c.functions.ensures end next))
