@@ -1,6 +1,0 @@
-//! The tables of objects that come in pieces of any lengths.
-#![tactic(auto)]
-
-pub mod feed;
-
-pub use feed::RawObjectFeed;
