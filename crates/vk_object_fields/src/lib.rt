@@ -1,0 +1,4 @@
+#![tactic(auto)]
+
+pub mod fields;
+pub mod parameters;

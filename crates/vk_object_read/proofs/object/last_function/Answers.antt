@@ -1,0 +1,9 @@
+use Rattle.std.proofs.Common.{ap, sym}
+use Rattle.std.specs.Option.{option_map}
+use Rattle.vk_object_format.specs.declared.rows.RawFunction.{RawFunction}
+use Rattle.vk_object_read.proofs.Last.{last_is}
+use Rattle.vk_object_read.proofs.object.last_function.Goals as goal
+
+pub returns-in-len1-up : goal.returns-in-len1-up
+returns-in-len1-up c =
+    sym (ap (option_map (λ (f : RawFunction). f.symbol)) (last_is c.args.functions.now c.last-item.result c.in-len1-up.len_at_least c.last-item.is))

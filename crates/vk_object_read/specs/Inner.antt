@@ -1,0 +1,4 @@
+-- Definitions on which no public contract's meaning rests: what the code's own functions tell each other.
+pub mod LeftData
+pub mod LeftFunction
+pub mod LeftObject
