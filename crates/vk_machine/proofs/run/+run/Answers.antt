@@ -1,13 +1,16 @@
-use Rattle.std.proofs.Common.{◌≡◌, arith, rules, refl, sym, ◌∙◌, ap, ◌+◌, ◌-◌, ◌<◌, drop, zero, length, ℕ, true, false, cond}
+use Rattle.std.proofs.Common.{◌≡◌, arith, rules, refl, sym, ◌∙◌, ap, ◌+◌, ◌-◌, ◌<◌, drop, zero, length, ℕ, true, false, cond, Bool}
 use Rattle.vk_code.specs.Instruction.{operation_of}
 use Rattle.vk_object.specs.Lane.{LaneState, is_live}
-use Rattle.vk_object.specs.Machine.{Ran, World, again, performs_some, run}
+use Rattle.vk_object.specs.Machine.{Ran, World, again, any_live, performs_some, run}
 use Rattle.vk_frames.specs.Frames.{lanes_of}
 use Rattle.vk_steps.specs.Places.{entry, listing, site}
 use Rattle.vk_access.specs.Outer.{world}
 use Rattle.vk_access.proofs.Leading.{goes_on, leads_as, leads_same, told_twice}
 use Rattle.vk_machine.proofs.Running.{again_done, again_more, again_out, run_loop_at, run_plain, run_zero}
 use Rattle.vk_machine.proofs.run.+run.Goals as goal
+
+alive : (lanes n m : ℕ) (l : ℕ → LaneState) (r b : Bool) → n ≡ lanes → r ≡ any_live n m l → r ≡ b → any_live lanes m l ≡ b
+alive lanes n m l r b e f h = ap (λ k. any_live k m l) (sym e) ∙ (sym f ∙ h)
 
 less_0 : (k : ℕ) → k ≡ k - 0
 less_0 k = omega arith
@@ -118,7 +121,7 @@ pub repeat_block-returns-then-not-any_live-clause-runs : goal.repeat_block-retur
 repeat_block-returns-then-not-any_live-clause-runs g n c = 
     let block : World → World = λ v. run (site c.args.place.now) (drop c.args.from (listing c.args.place.now).routine.instrs) zero c.args.count v in
     let lanes = (entry c.args.place.now).lanes in
-    leads_as World _ _ _ _ _ _ (λ m. refl) (λ m. again_done lanes c.args.m block (c.args.place.now.turns - c.loop.counter) (world (lanes_of c.loop.frame) m) (sym c.any_live.ensures ∙ c.if-not-any_live.true)) c.loop.invariant.leads
+    leads_as World _ _ _ _ _ _ (λ m. refl) (λ m. again_done lanes c.args.m block (c.args.place.now.turns - c.loop.counter) (world (lanes_of c.loop.frame) m) (alive lanes c.loop.frame.lanes c.args.m (lanes_of c.loop.frame) c.any_live.result false c.loop.invariant.ready.fits.shape.lanes_are c.any_live.ensures c.if-not-any_live.true)) c.loop.invariant.leads
 
 pub repeat_block-returns-in_err-run_block-clause-runs : goal.repeat_block-returns-in_err-run_block-clause-runs
 repeat_block-returns-in_err-run_block-clause-runs g n c = ?
@@ -128,10 +131,10 @@ repeat_block-loop-preserved g n c =
     let block : World → World = λ v. run (site c.args.place.now) (drop c.args.from (listing c.args.place.now).routine.instrs) zero c.args.count v in
     let lanes = (entry c.args.place.now).lanes in
     record {
-      ready = record { sound = c.loop.invariant.ready.sound; fits = c.run_block.ensures.keeps.fits; store = c.run_block.ensures.keeps.store; room = ? };
+      ready = record { sound = c.loop.invariant.ready.sound; fits = c.run_block.ensures.keeps.fits; store = c.run_block.ensures.keeps.store; room = search rules };
       leads = goes_on _ _ _ (lanes_of c.loop.frame) (lanes_of c.run_block.new.frame) _ (λ w. again lanes c.args.m block (c.args.place.now.turns - c.loop.counter) w) (λ w. again lanes c.args.m block (c.args.place.now.turns - (c.loop.counter + 1)) w) block
         c.loop.invariant.leads c.in_ok-run_block.ensures.runs
-        (λ m. again_more lanes c.args.m block (c.args.place.now.turns - c.loop.counter) (c.args.place.now.turns - (c.loop.counter + 1)) (world (lanes_of c.loop.frame) m) (omega (arith, c.loop-test.true)) (omega arith) (sym c.any_live.ensures ∙ c.if-not-any_live.false));
+        (λ m. again_more lanes c.args.m block (c.args.place.now.turns - c.loop.counter) (c.args.place.now.turns - (c.loop.counter + 1)) (world (lanes_of c.loop.frame) m) (omega (arith, c.loop-test.true)) (omega arith) (alive lanes c.loop.frame.lanes c.args.m (lanes_of c.loop.frame) c.any_live.result true c.loop.invariant.ready.fits.shape.lanes_are c.any_live.ensures c.if-not-any_live.false));
     }
 
 pub repeat_block-returns-then-any_live-clause-keeps : goal.repeat_block-returns-then-any_live-clause-keeps
@@ -141,7 +144,7 @@ pub repeat_block-returns-then-any_live-clause-runs : goal.repeat_block-returns-t
 repeat_block-returns-then-any_live-clause-runs g n c = 
     let block : World → World = λ v. run (site c.args.place.now) (drop c.args.from (listing c.args.place.now).routine.instrs) zero c.args.count v in
     let lanes = (entry c.args.place.now).lanes in
-    leads_as World _ _ _ _ _ _ (λ m. refl) (λ m. again_out lanes c.args.m block (c.args.place.now.turns - c.loop.counter) (world (lanes_of c.loop.frame) m) (omega (arith, c.loop-test.false)) (sym c.any_live-2.ensures ∙ c.if-any_live.true)
+    leads_as World _ _ _ _ _ _ (λ m. refl) (λ m. again_out lanes c.args.m block (c.args.place.now.turns - c.loop.counter) (world (lanes_of c.loop.frame) m) (omega (arith, c.loop-test.false)) (alive lanes c.loop.frame.lanes c.args.m (lanes_of c.loop.frame) c.any_live-2.result true c.loop.invariant.ready.fits.shape.lanes_are c.any_live-2.ensures c.if-any_live.true)
       ∙ ap (λ (f : ℕ → LaneState). world f m) (sym c.stop_turns.ensures.lanes)) c.loop.invariant.leads
 
 pub run_block-loop-left-init : goal.run_block-loop-left-init
