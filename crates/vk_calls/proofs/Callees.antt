@@ -1,5 +1,5 @@
 -- The entries that an entry of an image calls.
-use Rattle.std.proofs.Common.{◌≡◌, ℕ, zero, suc, ◌+◌, ◌-◌, ◌^◌, ◌<◌, ◌≤◌, ◌==◌, nat_le, nat_lt, Bool, true, false, ◌&&◌, cond, List, [], ◌∷◌, length, map, Option, Some, None, refl, ap, ap₂, sym, subst, ◌∙◌, arith}
+use Rattle.std.proofs.Common.{◌≡◌, ℕ, zero, suc, ◌-◌, ◌^◌, ◌<◌, ◌==◌, nat_le, Bool, true, ◌&&◌, cond, List, [], ◌∷◌, length, map, Option, Some, None, refl, ap, ap₂, sym, subst, ◌∙◌, arith}
 use Rattle.std.specs.Prelude.{slice_get}
 use Rattle.std.specs.List.{list_all}
 use Rattle.std.specs.Option.{option_and_then, option_map}
@@ -7,20 +7,20 @@ use Rattle.std.proofs.lemmas.Bool.{eqb-true, false≢true, leb-true, ltb-true}
 use Rattle.std.proofs.lemmas.Option.{none-some, same_Some, slice_get-map}
 use Rattle.vk_code.specs.Listing.{CallSite, Listing, SimdSite, numbered_code}
 use Rattle.vk_code.specs.Tests.{all_good, holds, pairs}
-use Rattle.vk_code.specs.Valid.{has_good_counts, has_good_registers, is_good_head, is_good_loop, is_good_slot, body_verdicts, verdicts}
+use Rattle.vk_code.specs.Valid.{has_good_counts, has_good_registers, is_good_head, verdicts}
 use Rattle.vk_code.proofs.Faults.{and_left, and_right}
 use Rattle.vk_object.specs.declared.tables.EntryKind.{EntryKind}
 use Rattle.vk_object.specs.declared.tables.EntryKind.TheVariants.{Ordinary, Scalar, N, M, Chunk, Rest}
 use Rattle.vk_object.specs.declared.tables.LoopTargets.{LoopTargets}
-use Rattle.vk_object.specs.Images.{are_entries, calls_within, code_of, has_body, has_lanes, has_loop_types, has_slot_types, is_body_entry, is_call, is_chunk, is_equal, is_code, is_entry, is_entry_byte, is_image, is_variant, is_linked, is_loop, is_number_of, is_rest, is_row, is_within, may_call, names_of, suits}
+use Rattle.vk_object.specs.Images.{are_entries, calls_within, code_of, has_body, has_lanes, has_loop_types, has_slot_types, is_body_entry, is_call, is_chunk, is_equal, is_code, is_entry, is_entry_byte, is_image, is_variant, is_linked, is_loop, is_number_of, is_rest, is_row, is_within, names_of, suits}
 use Rattle.vk_object.specs.Parameters.{are_kinds}
 use Rattle.vk_object.specs.Texts.{between}
 use Rattle.vk_object.specs.Tables.{EntryLists, Tables}
-use Rattle.vk_object.specs.Machine.{Called, Simd, Site, Target, enters, simd_of, enters_some, entry_at, site_at, site_of, target_of}
+use Rattle.vk_object.specs.Machine.{Simd, Target, enters, simd_of, enters_some, entry_at, site_at, target_of}
 use Rattle.vk_steps.specs.declared.place.Place.{Place}
 use Rattle.vk_steps.specs.Places.{IsSound, entry, image_tables, listing, site, tables}
 use Rattle.vk_calls.specs.Found.{IsCallee}
-use Rattle.vk_runs.proofs.Reached.{IsTarget, all_at, holds_at, image_parts, lanes_few, pairs_at, slots_linked, target_types}
+use Rattle.vk_runs.proofs.Reached.{all_at, holds_at, image_parts, pairs_at, slots_linked, target_types}
 
 -- there is an element at each place in a list
 pub element : {A : Type 0} (xs : List A) (n : ℕ) → n < length xs → (x : A) × (slice_get xs n ≡ Some x)

@@ -1,5 +1,5 @@
 -- The instructions after an instruction.
-use Rattle.std.proofs.Common.{◌≡◌, ℕ, zero, suc, ◌+◌, ◌-◌, ◌<◌, ◌≤◌, nat_le, nat_lt, Bool, true, false, ◌&&◌, List, [], ◌∷◌, ◌++◌, length, drop, Option, Some, None, refl, ap, sym, subst, ◌∙◌, arith}
+use Rattle.std.proofs.Common.{◌≡◌, ℕ, zero, suc, ◌+◌, ◌-◌, ◌<◌, ◌≤◌, nat_le, nat_lt, Bool, true, ◌&&◌, List, [], ◌∷◌, ◌++◌, length, drop, Option, Some, None, refl, ap, sym, subst, ◌∙◌, arith}
 use Rattle.std.specs.Prelude.{slice_get}
 use Rattle.std.proofs.lemmas.Bool.{false≢true, leb-true, ltb-true}
 use Rattle.std.proofs.lemmas.List.Folds.{list_all-append}
@@ -15,8 +15,8 @@ use Rattle.vk_code.proofs.Faults.{and_left, and_right}
 use Rattle.vk_code.proofs.Nesting.{verdicts_skipped}
 use Rattle.vk_object.specs.Images.{names_of}
 use Rattle.vk_steps.specs.declared.place.Place.{Place}
-use Rattle.vk_steps.specs.Places.{IsGood, listing, tables}
-use Rattle.vk_calls.specs.Fetched.{IsBlock, IsFetched, IsPart, IsPlain, sorted}
+use Rattle.vk_steps.specs.Places.{listing, tables}
+use Rattle.vk_calls.specs.Fetched.{IsFetched, IsPart, IsPlain, sorted}
 
 same_instr : (x i : Instr) → Some x ≡ Some i → x ≡ i
 same_instr x i e = ap (λ (o : Option Instr). elim o as (λ _. Instr) [ None ↦ x | Some y ↦ y ]) e

@@ -1,9 +1,9 @@
 -- What stands at a place in code.
-use Rattle.std.specs.Prelude.{◌≡◌, ℕ, zero, ◌+◌, ◌-◌, ◌<◌, ◌≤◌, true, length, drop, Option, None, Some, slice_get}
+use Rattle.std.specs.Prelude.{◌≡◌, ℕ, zero, ◌+◌, ◌-◌, ◌<◌, ◌≤◌, true, length, drop, None, Some, slice_get}
 use Rattle.vk_code.specs.declared.instruction.Instr.{Instr}
 use Rattle.vk_code.specs.declared.instruction.Operation.{Operation}
 use Rattle.vk_code.specs.declared.instruction.Operation.TheVariants.{Const, Copy, Convert, Binary, Compare, Unary, Lane, Load, Store, PtrAdd, Addr, MaskOf, MaskAnd, MaskOr, MaskBut, Loop, Call, Print, SimdLoop}
-use Rattle.vk_code.specs.Instruction.{block_of, operation_of}
+use Rattle.vk_code.specs.Instruction.{block_of}
 use Rattle.vk_code.specs.Tests.{all_good}
 use Rattle.vk_code.specs.Valid.{instr_verdicts}
 use Rattle.vk_object.specs.Images.{names_of}

@@ -1,6 +1,6 @@
 -- The entries that a slot and a simd loop call.
-use Rattle.std.specs.Prelude.{◌≡◌, ℕ, ◌<◌, true, length, Some, slice_get}
-use Rattle.vk_code.specs.Listing.{CallSite, call_site_of, simd_site_of}
+use Rattle.std.specs.Prelude.{◌≡◌, ℕ, ◌<◌, true, length, Some}
+use Rattle.vk_code.specs.Listing.{call_site_of, simd_site_of}
 use Rattle.vk_object.specs.Images.{has_loop_types, has_slot_types, is_within}
 use Rattle.vk_object.specs.Machine.{enters, entry_at, simd_of, target_of}
 use Rattle.vk_steps.specs.declared.place.Place.{Place}

@@ -8,9 +8,10 @@ use Rattle.vk_ends.specs.declared.ends.End.TheVariants.{Words, Memory}
 use Rattle.vk_ends.specs.declared.ends.WordFault.{WordFault}
 use Rattle.vk_ends.proofs.Acting.{Stays-none, acts_memory}
 use Rattle.vk_ends.proofs.Holding.{Holds-told, holds}
-use Rattle.vk_words.specs.Command.{Command, demangle, lanes}
+use Rattle.vk_words.specs.Command.{Command, demangle, lanes, mangle}
 use Rattle.vk_cmd_demangle.proofs.Lined.{one_text as one_demangled}
 use Rattle.vk_cmd_lanes.proofs.Lined.{one_text as one_called}
+use Rattle.vk_cmd_mangle.proofs.Lined.{one_text as one_mangled}
 use Rattle.vk_cli.specs.Commands.{CommandHolds, called}
 use Rattle.vk_cli.specs.Unasked.{IsUnasked, UnaskedHolds}
 
@@ -19,16 +20,19 @@ pub told_holds : (k : Command) (store store_now : StoreState) (out out_now : Sin
     CommandHolds k store store_now out out_now end → CommandHolds k store store_now out out_now result
 told_holds (demangle file) store store_now out out_now end result told h = Holds-told end result tt told h
 told_holds (lanes r) store store_now out out_now end result told h = Holds-told end result tt told h
+told_holds (mangle r) store store_now out out_now end result told h = Holds-told end result tt told h
 
 -- want of memory, where nothing was done
 pub memory_holds : (k : Command) (store : StoreState) (out : SinkState) → CommandHolds k store store out out Memory
 memory_holds (demangle file) store out = holds (one_demangled (store.file file)) (acts_memory out tt (Reads-none (file ∷ []) store))
 memory_holds (lanes r) store out = holds (one_called (called r) (store.file r.unit)) (acts_memory out tt (Reads-none (r.unit ∷ []) store))
+memory_holds (mangle r) store out = holds (one_mangled r.target (store.file r.unit)) (acts_memory out tt (Reads-none (r.unit ∷ []) store))
 
 -- no command answers that its words are wrong
 pub no_words : (k : Command) (store store_now : StoreState) (out out_now : SinkState) (fault : WordFault) → CommandHolds k store store_now out out_now (Words fault) → ⊥
 no_words (demangle file) store store_now out out_now fault h = h.acts.allowed
 no_words (lanes r) store store_now out out_now fault h = h.acts.allowed
+no_words (mangle r) store store_now out out_now fault h = h.acts.allowed
 
 no_memory_words : (fault : WordFault) → Memory ≡ Words fault → ⊥
 no_memory_words fault e = cc

@@ -8,7 +8,7 @@ use Rattle.vk_ends.specs.Holds.{Holds, end_of}
 use Rattle.vk_ends.specs.declared.ends.Refusal.{Refusal}
 use Rattle.vk_ends.specs.declared.ends.End.{End}
 use Rattle.vk_ends.specs.declared.ends.End.TheVariants.{Memory}
-use Rattle.vk_words.specs.Command.{Command, demangle, files_of, lanes}
+use Rattle.vk_words.specs.Command.{Command, demangle, files_of, lanes, mangle}
 use Rattle.vk_cli.specs.Commands.{AreThere, CommandHolds, CommandPrints}
 
 no_rise : (a b : ℕ) → a ≡ 0 → b ≡ a → Rose a b → ⊥
@@ -31,3 +31,4 @@ pub command_complete : (k : Command) (store store_now : StoreState) (out out_now
     (text : List ℕ) (stop : Option Stop) → CommandPrints k store.file text stop → (end ≡ end_of stop) ⊎ (end ≡ Memory)
 command_complete (demangle name) store store_now out out_now end h told sound there none still text stop p = complete_of h told sound there none still text stop p
 command_complete (lanes r) store store_now out out_now end h told sound there none still text stop p = complete_of h told sound there none still text stop p
+command_complete (mangle r) store store_now out out_now end h told sound there none still text stop p = complete_of h told sound there none still text stop p

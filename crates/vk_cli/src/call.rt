@@ -11,6 +11,7 @@ ghost use Rattle.vk_cli.specs.Unasked.{UnaskedHolds};
 use std::alloc::Global;
 use vk_cmd_demangle::demangle;
 use vk_cmd_lanes::{Call, lanes};
+use vk_cmd_mangle::mangle;
 use vk_ends::{End, WordFault, report, report_memory};
 use vk_io::{Sink, Store, Words};
 use vk_words::{Request, WordFail, request_of};
@@ -20,6 +21,7 @@ use vk_words::{Request, WordFail, request_of};
 /// - `demangle FILE` reads one vector name a line and writes each in words.
 /// - `lanes --isa b UNIT NAME ARG..` reads the unit, one function that returns an integer expression of its parameters, calls its
 ///   vector variant NAME on the lanes' arguments, and writes the line `lane I: N` of each lane on `out`.
+/// - `mangle --target T UNIT` reads the unit, judges it and writes each vector name that its directives give.
 ///
 /// An end other than `Done` puts its one line on `err`; a fault of `err` changes no answer. The answers, in this order:
 /// `Words` P1 where there is no word, P2 where the first is no command, P3 where the command's table does not take the others, P4
@@ -78,6 +80,10 @@ fn carry_out<S: Store, O: Sink, E: Sink>(
                 arguments: &request.arguments,
             };
             let end = lanes(alloc, call, store, out);
+            report(alloc, end, &[request.unit], err)
+        }
+        Request::Mangle(request) => {
+            let end = mangle(alloc, request.target, request.unit, store, out);
             report(alloc, end, &[request.unit], err)
         }
     }

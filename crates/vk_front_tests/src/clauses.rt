@@ -89,7 +89,10 @@ static PLACES: [(&str, &str); 6] = [
         "aligned(a \\\n: \\\n8) inbranch",
         "1(aligned@1 a@1) 3(inbranch@3)",
     ),
-    ("linear(val(a, \\\nb) : \\\nc)", "1(linear@1 val@1 a@1 b@2 c@3)"),
+    (
+        "linear(val(a, \\\nb) : \\\nc)",
+        "1(linear@1 val@1 a@1 b@2 c@3)",
+    ),
     (
         "simdlen(\\\n4) \\\nnotinbranch",
         "1(simdlen@1) 3(notinbranch@3)",

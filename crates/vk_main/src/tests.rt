@@ -1,6 +1,7 @@
 //! Whole calls, with what they write and how they end.
 mod calls;
 mod faults;
+mod mangled;
 mod name_files;
 mod outside;
 mod single_words;
@@ -12,6 +13,7 @@ mod wrong_words;
 use super::*;
 use calls::REFUSED;
 use faults::FAULTS;
+use mangled::MANGLED;
 use name_files::NAME_FILES;
 use outside::{BYTES, INTS, LONGS, SHORTS};
 use single_words::WORDS;
@@ -175,6 +177,16 @@ fn files_of_names_are_told(rt: HostRuntime) -> Result<(), Fail> {
 }
 
 #[test]
+fn units_give_vector_names(rt: HostRuntime) -> Result<(), Fail> {
+    for (unit, text, out, err, status) in &MANGLED {
+        let words = split(rt.alloc(), text)?;
+        let found = difference(rt.alloc(), unit, &words, (out, err, *status))?;
+        assert_eq!(rt; found, "none", "at {text} on {unit}");
+    }
+    Ok(())
+}
+
+#[test]
 fn long_files_are_refused(rt: HostRuntime) -> Result<(), Fail> {
     for (length, text, err) in [
         (
@@ -187,6 +199,7 @@ fn long_files_are_refused(rt: HostRuntime) -> Result<(), Fail> {
             "lanes --isa b f.c _ZGVbN4v_f 1",
             "vfabi: f.c line 1 directive 0: C5\n",
         ),
+        (1048577, "mangle --target x86-64 f.c", "vfabi: f.c: Z1\n"),
         (1048577, "demangle f.c", "vfabi: f.c: Z1\n"),
         (1048576, "demangle f.c", "vfabi: line 1: N1 at 0\n"),
     ] {

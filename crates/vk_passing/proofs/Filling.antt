@@ -1,11 +1,11 @@
 -- A lane that gets its arguments, and all lanes.
-use Rattle.std.proofs.Common.{◌≡◌, ℕ, zero, suc, ◌+◌, ◌<◌, ◌≤◌, ◌==◌, nat_lt, ◌&&◌, Bool, true, false, cond, refl, ap, sym, ◌∙◌, arith, ◌⊎◌, inl, inr, None}
+use Rattle.std.proofs.Common.{◌≡◌, ℕ, ◌+◌, ◌<◌, ◌≤◌, ◌==◌, nat_lt, ◌&&◌, Bool, true, false, cond, refl, ap, sym, ◌∙◌, arith, ◌⊎◌, inl, inr, None}
 use Rattle.std.proofs.lemmas.Bool.{cases_eq, cases_lt, eq-eqb, le-ltb, lt-ltb, ne_eqb}
 use Rattle.vk_object.specs.Lane.{LaneState, with_mask, with_reg}
 use Rattle.vk_object.specs.Machine.{first_lane, put}
 use Rattle.vk_frames.specs.Each.{each}
 use Rattle.vk_frames.specs.Rows.{no_lanes}
-use Rattle.vk_frames.proofs.Writes.{put_other, put_same, same_lane, same_lanes}
+use Rattle.vk_frames.proofs.Writes.{put_same, same_lane, same_lanes}
 use Rattle.vk_passing.specs.Filled.{filled, given}
 
 pub put_put : (f : ℕ → LaneState) (j : ℕ) (a b : LaneState) → put (put f j a) j b ≡ put f j b

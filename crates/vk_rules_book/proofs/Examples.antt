@@ -33,7 +33,7 @@ use Rattle.vk_rules_book.specs.Typings.{are_arguments, choice_typing}
 use Rattle.vk_rules_book.specs.Expressions.{expression_faults, call_faults, called_faults}
 use Rattle.vk_rules_book.specs.Statements.{statement_faults, parameter_faults}
 use Rattle.vk_rules_book.specs.Signatures.{param_of, number_of, is_uniform, step_of, kind_in, align_in, branch_in, simdlen_in, signature_of, same_params, same_signatures, share_a_name}
-use Rattle.vk_rules_book.specs.Directives.{powers, said_faults, clause_faults, entry_faults, has_signature, repeats_a_name, directive_faults}
+use Rattle.vk_rules_book.specs.Directives.{powers, said_faults, clause_faults, entry_faults, has_signature, repeats_a_name, directive_faults, redeclaration_faults}
 use Rattle.vk_rules_book.specs.Items.{same_ctypes, length_of, initial_faults, definition_in, costs, item_faults}
 use Rattle.vk_rules_book.specs.Rules.{Subject, faults_of}
 
@@ -434,5 +434,5 @@ first_faults :
     ∷ Some (told r.C8 1 0)
     ∷ Some (told r.D12 1 1)
     ∷ []
-unfolding int_wrap faults_of first_among constant_of first_declaration last_binding meaning_of is_taken with_params are_arguments choice_typing expression_faults call_faults called_faults statement_faults parameter_faults param_of number_of is_uniform step_of kind_in align_in branch_in simdlen_in signature_of same_params same_signatures share_a_name powers said_faults clause_faults entry_faults has_signature repeats_a_name directive_faults same_ctypes length_of initial_faults definition_in costs item_faults lengths cdt nds wds
+unfolding int_wrap faults_of first_among constant_of first_declaration last_binding meaning_of is_taken with_params are_arguments choice_typing expression_faults call_faults called_faults statement_faults parameter_faults param_of number_of is_uniform step_of kind_in align_in branch_in simdlen_in signature_of same_params same_signatures share_a_name powers said_faults clause_faults entry_faults has_signature repeats_a_name directive_faults redeclaration_faults same_ctypes length_of initial_faults definition_in costs item_faults lengths cdt nds wds
 first_faults = refl

@@ -1,3 +1,4 @@
+pub mod Along
 mod Examples
 mod First
 pub mod Noting

@@ -1,8 +1,7 @@
--- The rules on directives of functions: D1 to D14, D18, D19, and C16 of names in clauses.
-use Rattle.std.specs.Prelude.{ℕ, ◌==◌, Bool, true, false, cond, ◌&&◌, ◌||◌, not, List, [], ◌∷◌, ◌++◌, flat_map, length, nat_lt, nat_le, Option, Some, None, is_some, is_none, ℤ, pos, unsigned_abs}
+-- The rules on directives of functions: D1 to D14, D17 to D19, and C16 of names in clauses.
+use Rattle.std.specs.Prelude.{ℕ, ◌==◌, Bool, true, false, cond, ◌&&◌, ◌||◌, not, List, [], ◌∷◌, ◌++◌, map, flat_map, length, nat_lt, nat_le, Option, Some, None, is_some, is_none, ℤ, pos, unsigned_abs}
 use Rattle.std.specs.Ordering.{int_eq}
-use Rattle.std.specs.List.{list_any}
-use Rattle.vk_types.specs.declared.types.Ty.{Ty}
+use Rattle.std.specs.List.{list_any, list_all}
 use Rattle.vk_kinds.specs.declared.heads.CType.{CType}
 use Rattle.vk_kinds.specs.declared.heads.CType.TheVariants.{Ptr}
 use Rattle.vk_kinds.specs.declared.kinds.Target.{Target}
@@ -16,17 +15,18 @@ use Rattle.vk_ast.specs.declared.directives.Modifier.{Modifier}
 use Rattle.vk_ast.specs.declared.directives.Modifier.TheVariants as modifier
 use Rattle.vk_ast.specs.Tree.{Tree}
 use Rattle.vk_ast.specs.Directives.{Says, simdlen, aligned, linear, inside, outside, other, ClauseTree, DirectiveTree}
-use Rattle.vk_ast.specs.Units.{FunctionTree}
-use Rattle.vk_unit_rules.specs.declared.rules.UnitRule.TheVariants.{C16, D1, D2, D3, D4, D5, D6, D7, D8, D9, D10, D11, D13, D14, D18, D19}
+use Rattle.vk_ast.specs.Units.{FunctionTree, ItemTree, function}
+use Rattle.vk_unit_rules.specs.declared.rules.UnitRule.{UnitRule}
+use Rattle.vk_unit_rules.specs.declared.rules.UnitRule.TheVariants.{C16, D1, D2, D3, D4, D5, D6, D7, D8, D9, D10, D11, D13, D14, D17, D18, D19}
 use Rattle.vk_rules_book.specs.declared.faults.Fault.{Fault}
 use Rattle.vk_rules_book.specs.declared.lists.Entry.{Entry}
 use Rattle.vk_rules_book.specs.declared.lists.Listed.{Listed}
 use Rattle.vk_rules_book.specs.declared.lists.Listed.TheVariants as listed
 use Rattle.vk_rules_book.specs.Faults.{when, fault_at, directive_fault}
 use Rattle.vk_numbers.specs.Constants.{constant_to}
-use Rattle.vk_rules_book.specs.Scopes.{same_name, is_long}
+use Rattle.vk_rules_book.specs.Scopes.{first_declaration, has_directives, is_long, same_name}
 use Rattle.vk_rules_book.specs.Visits.{entries_of}
-use Rattle.vk_rules_book.specs.Signatures.{param_of, pointee, StepTree, constant, by_parameter, no_step, step_of, scaled, signature_of, head_of, share_a_name}
+use Rattle.vk_rules_book.specs.Signatures.{param_of, pointee, pointee_of, StepTree, constant, by_parameter, no_step, step_of, scaled, signature_of, head_of, same_signatures, share_a_name}
 
 -- ---- clauses
 
@@ -61,13 +61,6 @@ is_branch _ = false
 -- D6: a step that is none, or 0, or of a magnitude above 2147483647, in bytes for a pointer
 abbrev pub is_too_great : ℤ → Bool
 is_too_great z = nat_lt 2147483647 (unsigned_abs z)
-
-abbrev pub pointee_of : List ParamDecl → NameId → Option Ty
-pointee_of params id = of_param (param_of params id)
-  where
-    of_param : Option ParamDecl → Option Ty
-    of_param None = None
-    of_param (Some p) = pointee p.ctype
 
 abbrev pub is_wrong_step : List ParamDecl → List PlacedName → StepTree → Bool
 is_wrong_step params names (constant z) =
@@ -191,3 +184,25 @@ unfoldable pub directive_faults : Target → FunctionTree → (earlier : List Di
 directive_faults target f earlier d =
     when (has_signature f d && is_no_width target (head_of f) (signature_of f d)) (directive_fault d d.token D18)
     ++ when (has_signature f d && repeats_a_name target f earlier d) (directive_fault d d.token D19)
+
+-- ---- the directives of a function's declarations
+
+abbrev pub signatures : FunctionTree → List SignatureTree
+signatures f = map (signature_of f) f.directives
+
+abbrev pub have_signatures : FunctionTree → Bool
+have_signatures f = list_all (has_signature f) f.directives
+
+-- D17: a later declaration's directives are not those of the first declaration (both lists break none of D1 to D14)
+abbrev pub has_other_directives : Option ItemTree → FunctionTree → Bool
+has_other_directives (Some (function first)) f = has_directives f.directives
+    && ((have_signatures first && have_signatures f) && not (same_signatures (signatures first) (signatures f)))
+has_other_directives _ f = false
+
+-- told at the function's name, with the line and the number of its first directive
+abbrev pub at_first : UnitRule → (token : ℕ) → List DirectiveTree → List Fault
+at_first rule token [] = []
+at_first rule token (d ∷ ds) = directive_fault d token rule ∷ []
+
+unfoldable pub redeclaration_faults : (before : List ItemTree) → FunctionTree → List Fault
+redeclaration_faults before f = cond (has_other_directives (first_declaration before f.name) f) (at_first D17 f.token f.directives) []

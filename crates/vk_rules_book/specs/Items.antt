@@ -1,25 +1,21 @@
--- The rules on items: C8, C11, C12, C13, C16, C17, C18, D12, D17.
-use Rattle.std.specs.Prelude.{ℕ, ◌+◌, ◌*◌, ◌==◌, Bool, true, false, cond, ◌&&◌, ◌||◌, not, List, [], ◌∷◌, ◌++◌, map, length, nat_lt, nat_le, Option, Some, None, is_none, is_some}
+-- The rules on items: C8, C11, C12, C13, C16, C17, C18, D12.
+use Rattle.std.specs.Prelude.{ℕ, ◌+◌, ◌*◌, ◌==◌, Bool, true, false, cond, ◌&&◌, ◌||◌, not, List, [], ◌∷◌, ◌++◌, length, nat_lt, nat_le, Option, Some, None, is_none, is_some}
 use Rattle.std.specs.List.{list_any}
 use Rattle.std.specs.Option.{option_and_then}
 use Rattle.vk_types.specs.declared.types.Ty.TheVariants.{I32, I64}
 use Rattle.vk_kinds.specs.declared.heads.CType.{CType}
 use Rattle.vk_kinds.specs.declared.heads.CType.TheVariants.{Void, Int, Ptr}
-use Rattle.vk_kinds.specs.Sizes.{SignatureTree}
 use Rattle.vk_ast.specs.declared.names.NameId.{NameId}
 use Rattle.vk_ast.specs.Tree.{Tree}
 use Rattle.vk_ast.specs.Statements.{StmtTree, StmtTrees, block, local, if_only, if_else, while_loop, do_loop, for_loop, simd, no_stmts, more_stmts}
-use Rattle.vk_ast.specs.Directives.{DirectiveTree}
 use Rattle.vk_ast.specs.Units.{FunctionTree, ObjectTree, ItemTree, function, object, lost_line, function_nodes}
-use Rattle.vk_unit_rules.specs.declared.rules.UnitRule.{UnitRule}
-use Rattle.vk_unit_rules.specs.declared.rules.UnitRule.TheVariants.{C8, C11, C12, C13, C16, C17, C18, D12, D17}
+use Rattle.vk_unit_rules.specs.declared.rules.UnitRule.TheVariants.{C8, C11, C12, C13, C16, C17, C18, D12}
 use Rattle.vk_rules_book.specs.declared.faults.Fault.{Fault}
 use Rattle.vk_rules_book.specs.Faults.{when, fault_at, directive_fault}
 use Rattle.vk_rules_book.specs.Places.{line_of, token_of}
 use Rattle.vk_numbers.specs.Constants.{constant_of, constant_to}
 use Rattle.vk_rules_book.specs.Scopes.{same_name, is_print, is_main, is_long, first_declaration, types_of, has_directives}
 use Rattle.vk_rules_book.specs.Typings.{same_type}
-use Rattle.vk_rules_book.specs.Signatures.{signature_of, same_signatures}
 
 -- ---- types
 
@@ -104,18 +100,6 @@ abbrev pub is_wrong_again : List ItemTree → NameId → ItemTree → Bool
 is_wrong_again before id i =
     disagrees (first_declaration before id) i || (defines id i && list_any (defines id) before)
 
--- D17: directives of a later declaration that are not those of the first
-abbrev pub signatures : FunctionTree → List SignatureTree
-signatures f = map (signature_of f) f.directives
-
-abbrev pub has_other_directives : Option ItemTree → FunctionTree → Bool
-has_other_directives (Some (function first)) f = has_directives f.directives && not (same_signatures (signatures first) (signatures f))
-has_other_directives _ f = false
-
-abbrev pub at_first : UnitRule → ℕ → List DirectiveTree → List Fault
-at_first rule token [] = []
-at_first rule token (d ∷ ds) = directive_fault d token rule ∷ []
-
 -- ---- sizes of functions
 
 -- the definition of a function
@@ -175,8 +159,7 @@ item_faults texts unit before (function f) =
     ++ (when (is_wrong_again before f.name (function f)) (fault_at f.line f.token C13)
     ++ (when (is_long texts f.name) (fault_at f.line f.token C16)
     ++ (when (passes texts unit before (function f)) (fault_at f.line f.token C17)
-    ++ (when (is_too_large f f.body) (fault_at f.line f.token C18)
-    ++ cond (has_other_directives (first_declaration before f.name) f) (at_first D17 f.token f.directives) []))))
+    ++ when (is_too_large f f.body) (fault_at f.line f.token C18))))
 item_faults texts unit before (object o) =
     when (is_print texts o.name || is_main texts o.name) (fault_at o.line o.token C8)
     ++ (when (has_wrong_initialiser o) (fault_at o.init_line o.init_token C11)

@@ -4,10 +4,10 @@ use Rattle.vk_kinds.specs.declared.kinds.Target.{Target}
 use Rattle.vk_ast.specs.Units.{ItemTree}
 use Rattle.vk_rules_book.specs.declared.faults.Fault.{Fault}
 use Rattle.vk_rules_book.specs.Faults.{is_before}
-use Rattle.vk_rules_book.specs.Visits.{Visit, expression, called, statement, parameter, directive, clause, entry, item, initial, unit_visits}
+use Rattle.vk_rules_book.specs.Visits.{Visit, expression, called, statement, parameter, directives, directive, clause, entry, item, initial, unit_visits}
 use Rattle.vk_rules_book.specs.Expressions.{expression_faults, called_faults}
 use Rattle.vk_rules_book.specs.Statements.{statement_faults, parameter_faults}
-use Rattle.vk_rules_book.specs.Directives.{clause_faults, entry_faults, directive_faults}
+use Rattle.vk_rules_book.specs.Directives.{clause_faults, entry_faults, directive_faults, redeclaration_faults}
 use Rattle.vk_rules_book.specs.Items.{item_faults, initial_faults}
 
 -- a unit that is judged: its items, the text of each name's number, and what it is compiled for
@@ -22,6 +22,7 @@ faults_at unit (expression around scope r e) = expression_faults unit.texts arou
 faults_at unit (called around scope l k id arguments) = called_faults unit.texts around scope l k id arguments
 faults_at unit (statement around scope s) = statement_faults unit.texts around scope s
 faults_at unit (parameter scope n p) = parameter_faults unit.texts scope n p
+faults_at unit (directives before f) = redeclaration_faults before f
 faults_at unit (directive f earlier d) = directive_faults unit.target f earlier d
 faults_at unit (clause f d earlier c) = clause_faults unit.texts f d earlier c
 faults_at unit (entry f d earlier e) = entry_faults f d earlier e

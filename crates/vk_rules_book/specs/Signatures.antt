@@ -62,6 +62,14 @@ abbrev pub pointee : CType → Option Ty
 pointee (Ptr to written) = Some to
 pointee _ = None
 
+-- that of the parameter with this name
+abbrev pub pointee_of : List ParamDecl → NameId → Option Ty
+pointee_of params id = of_param (param_of params id)
+  where
+    of_param : Option ParamDecl → Option Ty
+    of_param None = None
+    of_param (Some p) = pointee p.ctype
+
 -- ---- clauses
 
 abbrev pub lists : NameId → List PlacedName → Bool
@@ -103,21 +111,21 @@ scaled (Some to) z = z *ℤ pos (bytes_of to)
 abbrev pub by_number : ℤ → Step
 by_number z = cond (int_eq z (pos 1)) One (By z)
 
-abbrev pub written_step : CType → StepTree → Step
-written_step t (constant z) = by_number (scaled (pointee t) z)
-written_step t (by_parameter n) = Arg n
-written_step t no_step = One
+abbrev pub written_step : Option Ty → StepTree → Step
+written_step to (constant z) = by_number (scaled to z)
+written_step to (by_parameter n) = Arg n
+written_step to no_step = One
 
 -- ---- signatures
 
-abbrev pub kind_said : FunctionTree → DirectiveTree → NameId → CType → Says → Option Kind
-kind_said f d id t (uniform names) = cond (lists id names) (Some Uniform) None
-kind_said f d id t (linear names modifier e) = cond (lists id names) (Some (Linear (written_step t (step_of f d e)))) None
-kind_said f d id t _ = None
+abbrev pub kind_said : FunctionTree → DirectiveTree → NameId → Says → Option Kind
+kind_said f d id (uniform names) = cond (lists id names) (Some Uniform) None
+kind_said f d id (linear names modifier e) = cond (lists id names) (Some (Linear (written_step (pointee_of f.params id) (step_of f d e)))) None
+kind_said f d id _ = None
 
-unfoldable pub kind_in : FunctionTree → DirectiveTree → NameId → CType → List ClauseTree → Kind
-kind_in f d id t [] = Vector
-kind_in f d id t (c ∷ cs) = unwrap_or (kind_said f d id t c.says) (kind_in f d id t cs)
+unfoldable pub kind_in : FunctionTree → DirectiveTree → NameId → List ClauseTree → Kind
+kind_in f d id [] = Vector
+kind_in f d id (c ∷ cs) = unwrap_or (kind_said f d id c.says) (kind_in f d id cs)
 
 -- `aligned` without a number is 16
 abbrev pub alignment : Option Tree → Option ℕ
@@ -132,9 +140,9 @@ unfoldable pub align_in : NameId → List ClauseTree → Option ℕ
 align_in id [] = None
 align_in id (c ∷ cs) = option_or (align_said id c.says) (align_in id cs)
 
-abbrev pub param_signature : FunctionTree → DirectiveTree → CType → Option NameId → Param
-param_signature f d t None = record { kind = Vector; align = None }
-param_signature f d t (Some id) = record { kind = kind_in f d id t d.clauses; align = align_in id d.clauses }
+abbrev pub param_signature : FunctionTree → DirectiveTree → Option NameId → Param
+param_signature f d None = record { kind = Vector; align = None }
+param_signature f d (Some id) = record { kind = kind_in f d id d.clauses; align = align_in id d.clauses }
 
 abbrev pub branch_said : Says → Option Branch
 branch_said inside = Some Inside
@@ -156,7 +164,7 @@ simdlen_in (c ∷ cs) = option_or (simdlen_said c.says) (simdlen_in cs)
 -- what a directive says that breaks none of D1 to D14
 unfoldable pub signature_of : FunctionTree → DirectiveTree → SignatureTree
 signature_of f d = record {
-  params = map (λ p. param_signature f d p.ctype p.name) f.params;
+  params = map (λ p. param_signature f d p.name) f.params;
   branch = branch_in d.clauses;
   simdlen = simdlen_in d.clauses;
 }

@@ -24,6 +24,8 @@ pub data Visit : Type 0 where
   statement : Around → Scope → StmtTree → Visit
   -- a parameter, its number from 0, and the scope before it
   parameter : Scope → (number : ℕ) → ParamDecl → Visit
+  -- all directives of a function, behind other items
+  directives : (before : List ItemTree) → FunctionTree → Visit
   -- a directive of a function, behind others of the same declaration
   directive : FunctionTree → (earlier : List DirectiveTree) → DirectiveTree → Visit
   -- a clause, and a listed name, behind others of the same directive
@@ -208,20 +210,36 @@ abbrev pub initialiser_visits : Scope → ObjectTree → Option (List Tree) → 
 initialiser_visits scope o None = []
 initialiser_visits scope o (Some es) = initial_visits scope o 0 es
 
-module _ (texts : List (List ℕ)) where
-  -- an item behind others, and all in it; it is visible in itself, an object in its initialiser
-  abbrev pub item_visits : (before : List ItemTree) → ItemTree → List Visit
-  item_visits before (function f) = item before (function f)
-      ∷ (directive_visits f [] f.directives
-      ++ (parameter_visits (file_scope texts (before ++ function f ∷ [])) 0 f.params
-      ++ body_visits (around_body (before ++ function f ∷ []) f) (with_params (file_scope texts (before ++ function f ∷ [])) f.params) f.body))
-  item_visits before (object o) = item before (object o)
-      ∷ (length_visits (file_scope texts before) o.array ++ initialiser_visits (file_scope texts (before ++ object o ∷ [])) o o.init)
-  item_visits before (lost_line d) = item before (lost_line d) ∷ []
+-- ---- units, in three parts for each item
 
-  abbrev pub items_visits : (before rest : List ItemTree) → List Visit
-  items_visits before [] = []
-  items_visits before (i ∷ is) = item_visits before i ++ items_visits (before ++ i ∷ []) is
+-- an item behind others, and what stands in an object's declaration; an object is visible in its initialiser
+abbrev pub item_part : List (List ℕ) → (before : List ItemTree) → ItemTree → List Visit
+item_part texts before (function f) = item before (function f) ∷ []
+item_part texts before (object o) = item before (object o)
+    ∷ (length_visits (file_scope texts before) o.array ++ initialiser_visits (file_scope texts (before ++ object o ∷ [])) o o.init)
+item_part texts before (lost_line d) = item before (lost_line d) ∷ []
 
-  abbrev pub unit_visits : List ItemTree → List Visit
-  unit_visits items = items_visits [] items
+-- the directives of a function
+abbrev pub directives_part : (before : List ItemTree) → ItemTree → List Visit
+directives_part before (function f) = directives before f ∷ directive_visits f [] f.directives
+directives_part before (object o) = []
+directives_part before (lost_line d) = []
+
+-- the parameters of a function, then its body; a function is visible in itself
+abbrev pub function_part : List (List ℕ) → (before : List ItemTree) → ItemTree → List Visit
+function_part texts before (function f) =
+    parameter_visits (file_scope texts (before ++ function f ∷ [])) 0 f.params
+    ++ body_visits (around_body (before ++ function f ∷ []) f) (with_params (file_scope texts (before ++ function f ∷ [])) f.params) f.body
+function_part texts before (object o) = []
+function_part texts before (lost_line d) = []
+
+-- a part of each item, one after another, behind other items
+abbrev pub along : ((before : List ItemTree) → ItemTree → List Visit) → (before rest : List ItemTree) → List Visit
+along part before [] = []
+along part before (i ∷ is) = part before i ++ along part (before ++ i ∷ []) is
+
+abbrev pub item_visits : List (List ℕ) → (before : List ItemTree) → ItemTree → List Visit
+item_visits texts before i = item_part texts before i ++ (directives_part before i ++ function_part texts before i)
+
+abbrev pub unit_visits : List (List ℕ) → List ItemTree → List Visit
+unit_visits texts items = along (item_visits texts) [] items

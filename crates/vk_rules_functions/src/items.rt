@@ -6,9 +6,9 @@ ghost use Rattle.vk_ast.specs.Units.{ItemTree, item_of};
 ghost use Rattle.vk_rules_book.specs.declared.contexts.Around.{Around};
 ghost use Rattle.vk_rules_book.specs.Noting.{found};
 ghost use Rattle.vk_rules_book.specs.Rules.{Subject};
-ghost use Rattle.vk_rules_book.specs.Visits.{first_number, number_of_item};
+ghost use Rattle.vk_rules_book.specs.Visits.{along, first_number, function_part, number_of_item};
 ghost use Rattle.vk_rules_names.specs.Seen.{item_at, unit_of};
-ghost use Rattle.vk_rules_functions.specs.Parts.{Declares, function_part, function_parts};
+ghost use Rattle.vk_rules_functions.specs.Parts.{Declares};
 
 use crate::functions::judge_function;
 use std::alloc::Global;
@@ -84,7 +84,7 @@ pub fn judge_functions(
     note: &mut Note,
 ) -> Result<(), Memory>
     ensures { OnOk result (note.new.first ≡ found (record { items = map item_of items.now; texts = names.now; target = target }) note.old.first
-        (function_parts names.now [] (map item_of items.now))) }
+        (along (function_part names.now) [] (map item_of items.now))) }
 {
     let mut first = no_declarations(alloc, names.len())?;
     for (number, item) in items.iter().enumerate() {

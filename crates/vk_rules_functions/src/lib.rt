@@ -3,7 +3,6 @@
 
 pub mod functions;
 pub mod items;
-pub mod laws;
 
 pub use functions::judge_function;
 pub use items::{judge_functions, judge_item};

@@ -1,9 +1,10 @@
 // The rules on statements: C8, C14, C15, C16, D12 and D15, and those on the expressions in them.
 
-ghost use Rattle.std.specs.Prelude.{◌≡◌, ◌||◌, false, length, Option, OnOk};
+ghost use Rattle.std.specs.Prelude.{◌≡◌, ◌++◌, ◌||◌, false, length, Option, OnOk};
 ghost use Rattle.std.specs.Option.{option_map};
 ghost use Rattle.vk_ast.specs.Statements.{list_stmts, stmt_of};
 ghost use Rattle.vk_ast.specs.Tree.{expr_of};
+ghost use Rattle.vk_rules_book.specs.declared.contexts.Role.TheVariants as role;
 ghost use Rattle.vk_rules_book.specs.Faults.{first_among};
 ghost use Rattle.vk_rules_book.specs.Noting.{found};
 ghost use Rattle.vk_rules_book.specs.Statements.{declared_faults, is_void, is_wrong_return, statement_faults};
@@ -198,9 +199,7 @@ pub fn judge_stmt(
             judge_inside(place, inner, looping(around), body, note)
         }
         StmtKind::Do(body, condition) => {
-            judge_inside(place, inner, looping(around), body, note)?;
-            judge_whole(place, inner, outer, around, Role::Value, condition, note);
-            Ok(())
+            judge_do(place, inner, outer, around, body, condition, note)
         }
         StmtKind::For(first, condition, third, body) => {
             let mark = inner.len();
@@ -213,6 +212,29 @@ pub fn judge_stmt(
         }
         StmtKind::Simd(_, body) => judge_inside(place, inner, around, body, note),
     }
+}
+
+// The body of a `do`, and its condition, which sees nothing of the body's block.
+#[cycle(stating)]
+#[tactic(auto, using(vk_rules_book::proofs::Noting::found_append))]
+fn judge_do(
+    place: &Place,
+    inner: &mut Vec<Binding>,
+    outer: usize,
+    around: Around,
+    body: &Stmt,
+    condition: &Expr,
+    note: &mut Note,
+) -> Result<(), Memory>
+    ensures same { OnOk result (inner.new.items ≡ inner.old.items) }
+    ensures noted { OnOk result (note.new.first ≡ found (unit_of place.now) note.old.first
+        (stmt_visits (in_loop around) (scope_at place.now inner.old.items (length inner.old.items)) false (stmt_of body.now)
+        ++ visits_of around (scope_at place.now inner.old.items outer) role.Value (expr_of condition.now))) }
+{
+    let inside = looping(around);
+    judge_inside(place, inner, inside, body, note)?;
+    judge_whole(place, inner, outer, around, Role::Value, condition, note);
+    Ok(())
 }
 
 // A statement, after which nothing that it declares is visible.

@@ -1,12 +1,14 @@
 -- Words ask one thing or break one rule.
-use Rattle.std.proofs.Common.{◌≡◌, ◌∙◌, ◌==◌, ℕ, true, false, List, [], Option, Some, None, refl, sym, ap, subst, if◌then◌else◌, get_or}
+use Rattle.std.proofs.Common.{◌≡◌, ◌∙◌, ◌==◌, ℕ, true, false, List, [], Option, Some, None, refl, sym, ap, subst, if◌then◌else◌, get_or, length, arith}
 use Rattle.std.specs.Prelude.{codes}
 use Rattle.std.proofs.lemmas.Bool.{false≢true}
 use Rattle.clap.specs.Words.{App, Text, takes}
-use Rattle.vk_words.specs.Asked.{IsDemangle, IsLanes, IsLanesUnstated, LanesAsked}
-use Rattle.vk_words.specs.Command.{Command, IsCommand, IsUnstated, IsWordFault, Picks, demangle, first_word, lanes, name_text, table_of}
+use Rattle.vk_kinds.specs.declared.kinds.Target.{Target}
+use Rattle.vk_kinds.specs.declared.kinds.Target.TheVariants.{X86, Arm}
+use Rattle.vk_words.specs.Asked.{IsDemangle, IsLanes, IsLanesUnstated, IsMangle, IsTarget, LanesAsked, MangleAsked, target_text}
+use Rattle.vk_words.specs.Command.{Command, IsCommand, IsUnstated, IsWordFault, Picks, demangle, first_word, lanes, mangle, name_text, table_of}
 use Rattle.vk_words.specs.declared.request.Name.{Name}
-use Rattle.vk_words.specs.declared.request.Name.TheVariants.{Demangle as DemangleName, Lanes as LanesName}
+use Rattle.vk_words.specs.declared.request.Name.TheVariants.{Demangle as DemangleName, Lanes as LanesName, Mangle as MangleName}
 use Rattle.vk_ends.specs.declared.ends.WordRule.{WordRule}
 use Rattle.vk_ends.specs.declared.ends.WordRule.TheVariants.{P1, P2, P3, P4}
 
@@ -16,17 +18,24 @@ some_same o x y a b = cc
 -- ---- names
 
 abbrev name_by : ℕ → Name
-name_by x = if x == 100 then DemangleName else LanesName
+name_by x = if x == 100 then DemangleName else (if x == 108 then LanesName else MangleName)
 
 name_of_text : (name : Name) → name_by (get_or (name_text name) 0 0) ≡ name
 name_of_text DemangleName = refl
 name_of_text LanesName = refl
+name_of_text MangleName = refl
 
 name_same : (words : List Text) (a b : Name) → Picks words a → Picks words b → a ≡ b
 name_same words a b x y = sym (name_of_text a) ∙ ap (λ (t : Text). name_by (get_or t 0 0)) (some_same (first_word words) _ _ x y) ∙ name_of_text b
 
-not_both : DemangleName ≡ LanesName → ⊥
-not_both e = cc
+demangle_lanes : DemangleName ≡ LanesName → ⊥
+demangle_lanes e = cc
+
+demangle_mangle : DemangleName ≡ MangleName → ⊥
+demangle_mangle e = cc
+
+lanes_mangle : LanesName ≡ MangleName → ⊥
+lanes_mangle e = cc
 
 some_word : (words : List Text) (name : Name) → words ≡ [] → Picks words name → ⊥
 some_word words name e p = let none : None ≡ Some (name_text name) = ap first_word (sym e) ∙ p in cc
@@ -43,33 +52,58 @@ lanes_same words r s a b =
     let arguments = sym a.arguments ∙ b.arguments in
     λ i. record { unit = unit i; name = name i; arguments = arguments i }
 
+apart_targets : target_text X86 ≡ target_text Arm → ⊥
+apart_targets e = let lengths = ap length e in omega (arith, lengths)
+
+target_same : (text : Option Text) (s t : Target) → IsTarget text s → IsTarget text t → s ≡ t
+target_same text X86 X86 a b = refl
+target_same text X86 Arm a b = absurd (apart_targets (some_same text _ _ a b))
+target_same text Arm X86 a b = absurd (apart_targets (some_same text _ _ b a))
+target_same text Arm Arm a b = refl
+
+mangle_same : (words : List Text) (r s : MangleAsked) → IsMangle words r → IsMangle words s → r ≡ s
+mangle_same words r s a b =
+    let target = target_same _ r.target s.target a.target b.target in
+    let unit = some_same _ _ _ a.unit b.unit in
+    λ i. record { target = target i; unit = unit i }
+
 -- the words ask one thing
 pub command_same : (words : List Text) (j k : Command) → IsCommand words j → IsCommand words k → j ≡ k
 command_same words (demangle r) (demangle s) a b = ap demangle (demangle_same words r s a.1 b.1)
-command_same words (demangle r) (lanes s) a b = absurd (not_both (name_same words _ _ a.0 b.0))
-command_same words (lanes r) (demangle s) a b = absurd (not_both (name_same words _ _ b.0 a.0))
+command_same words (demangle r) (lanes s) a b = absurd (demangle_lanes (name_same words _ _ a.0 b.0))
+command_same words (demangle r) (mangle s) a b = absurd (demangle_mangle (name_same words _ _ a.0 b.0))
+command_same words (lanes r) (demangle s) a b = absurd (demangle_lanes (name_same words _ _ b.0 a.0))
 command_same words (lanes r) (lanes s) a b = ap lanes (lanes_same words r s a.1 b.1)
+command_same words (lanes r) (mangle s) a b = absurd (lanes_mangle (name_same words _ _ a.0 b.0))
+command_same words (mangle r) (demangle s) a b = absurd (demangle_mangle (name_same words _ _ b.0 a.0))
+command_same words (mangle r) (lanes s) a b = absurd (lanes_mangle (name_same words _ _ b.0 a.0))
+command_same words (mangle r) (mangle s) a b = ap mangle (mangle_same words r s a.1 b.1)
 
 -- the command, and that its table takes the words
 abbrev name_of : Command → Name
 name_of (demangle r) = DemangleName
 name_of (lanes r) = LanesName
+name_of (mangle r) = MangleName
 
 picked : (words : List Text) (k : Command) → IsCommand words k → Picks words (name_of k)
 picked words (demangle r) a = a.0
 picked words (lanes r) a = a.0
+picked words (mangle r) a = a.0
 
 taken : (words : List Text) (k : Command) → IsCommand words k → takes (table_of (name_of k)) words ≡ true
 taken words (demangle r) a = a.1.taken
 taken words (lanes r) a = a.1.taken
+taken words (mangle r) a = a.1.taken
 
 stated : (words : List Text) (k : Command) → IsCommand words k → IsUnstated (name_of k) words → ⊥
 stated words (demangle r) a u = u
 stated words (lanes r) a u = u.isa a.1.isa
+stated words (mangle r) a u = u.target r.target a.1.target
 
 unstated_taken : (name : Name) (words : List Text) → IsUnstated name words → takes (table_of name) words ≡ true
 unstated_taken DemangleName words u = absurd u
 unstated_taken LanesName words u = u.taken
+unstated_taken MangleName words u = u.taken
 
 -- ---- rules
 

@@ -1,10 +1,12 @@
 -- What the words of a command ask.
 use Rattle.std.specs.Prelude.{◌≡◌, ◌⊎◌, ◌≤◌, ◌<◌, ℕ, Bool, true, List, [], ◌∷◌, codes, decimal, length, map, Option, Some, None}
 use Rattle.clap.specs.Words.{App, Text, first_of, matches_of, one_of, takes}
-use Rattle.vk_words.specs.Tables.{call_table, demangle_table, lanes_table, link_table, run_table}
+use Rattle.vk_words.specs.Tables.{call_table, demangle_table, lanes_table, link_table, mangle_table, run_table}
 use Rattle.vk_words.specs.Reading.{flag_at, value_at, values_at}
 use Rattle.vk_kinds.specs.declared.kinds.Isa.{Isa}
 use Rattle.vk_kinds.specs.declared.kinds.Isa.TheVariants.{B, C, D, E, N, S}
+use Rattle.vk_kinds.specs.declared.kinds.Target.{Target}
+use Rattle.vk_kinds.specs.declared.kinds.Target.TheVariants.{X86, Arm}
 
 -- ---- values
 
@@ -42,7 +44,29 @@ IsVl None vl = vl ≡ None
 IsVl (Some t) None = ⊥
 IsVl (Some t) (Some n) = IsVlText t n
 
+abbrev pub target_text : Target → Text
+target_text X86 = codes "x86-64"
+target_text Arm = codes "aarch64"
+
+abbrev pub IsTarget : Option Text → Target → Type 0
+IsTarget text target = text ≡ Some (target_text target)
+
 -- ---- commands
+
+-- mangle --target T UNIT
+pub record MangleAsked : Type 0 where
+  pub target : Target
+  pub unit : Text
+
+pub record IsMangle (words : List Text) (r : MangleAsked) : Type 0 where
+  pub taken : takes mangle_table words ≡ true
+  pub target : IsTarget (value_at mangle_table (codes "target") words) r.target
+  pub unit : value_at mangle_table (codes "UNIT") words ≡ Some r.unit
+
+-- P4 of it
+pub record IsMangleUnstated (words : List Text) : Type 0 where
+  pub taken : takes mangle_table words ≡ true
+  pub target : (target : Target) → IsTarget (value_at mangle_table (codes "target") words) target → ⊥
 
 -- call [--mask BITS] [--turns N] IMG NAME ARG..
 pub record CallAsked : Type 0 where

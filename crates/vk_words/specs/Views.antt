@@ -4,7 +4,8 @@ use Rattle.vk_words.specs.declared.call.CallRequest.{CallRequest}
 use Rattle.vk_words.specs.declared.run.RunRequest.{RunRequest}
 use Rattle.vk_words.specs.declared.lanes.LanesRequest.{LanesRequest}
 use Rattle.vk_words.specs.declared.link.LinkRequest.{LinkRequest}
-use Rattle.vk_words.specs.Asked.{CallAsked, LanesAsked, LinkAsked, RunAsked}
+use Rattle.vk_words.specs.declared.mangle.MangleRequest.{MangleRequest}
+use Rattle.vk_words.specs.Asked.{CallAsked, LanesAsked, LinkAsked, MangleAsked, RunAsked}
 
 abbrev pub call_asked : CallRequest → CallAsked
 call_asked r = record {
@@ -23,3 +24,6 @@ link_asked r = record { isa = r.isa; vl = r.vl; image = r.image.now; objects = m
 
 abbrev pub lanes_asked : LanesRequest → LanesAsked
 lanes_asked r = record { unit = r.unit.now; name = r.name.now; arguments = map (λ s. s.now) r.arguments.items }
+
+abbrev pub mangle_asked : MangleRequest → MangleAsked
+mangle_asked r = record { target = r.target; unit = r.unit.now }

@@ -6,6 +6,7 @@ pub mod demangle;
 pub mod getters;
 pub mod lanes;
 pub mod link;
+pub mod mangle;
 pub mod matching;
 pub mod request;
 pub mod run;
@@ -13,4 +14,5 @@ pub mod tables;
 pub mod values;
 
 pub use lanes::LanesRequest;
+pub use mangle::MangleRequest;
 pub use request::{Request, WordFail, request_of};

@@ -8,6 +8,7 @@ ghost use Rattle.vk_ends.specs.declared.ends.WordRule.{WordRule as RuleOf};
 
 use crate::demangle::demangle_of;
 use crate::lanes::{LanesRequest, lanes_of};
+use crate::mangle::{MangleRequest, mangle_of};
 use crate::matching::NoRequest;
 use std::alloc::Global;
 use vk_ends::WordRule;
@@ -17,6 +18,7 @@ use vk_ends::WordRule;
 pub enum Name {
     Demangle,
     Lanes,
+    Mangle,
 }
 
 /// What is asked.
@@ -26,6 +28,8 @@ pub enum Request<'a> {
     Demangle(&'a str),
     /// `lanes`: calls a variant of a unit.
     Lanes(LanesRequest<'a>),
+    /// `mangle`: gives the vector names of a unit.
+    Mangle(MangleRequest<'a>),
 }
 
 /// Why there is no request.
@@ -43,6 +47,7 @@ fn name_of(word: &str) -> Option<Name>
     match word {
         "demangle" => Some(Name::Demangle),
         "lanes" => Some(Name::Lanes),
+        "mangle" => Some(Name::Mangle),
         _ => None,
     }
 }
@@ -57,6 +62,7 @@ fn asked_of<'a>(alloc: Global, name: Name, words: &'a [String]) -> Result<Reques
     match name {
         Name::Demangle => Ok(Request::Demangle(demangle_of(alloc, words)?)),
         Name::Lanes => Ok(Request::Lanes(lanes_of(alloc, words)?)),
+        Name::Mangle => Ok(Request::Mangle(mangle_of(alloc, words)?)),
     }
 }
 

@@ -2,9 +2,10 @@
 
 ghost use Rattle.std.specs.Prelude.{◌≡◌, ℕ, Option, Some, None, IfSome, IsNone, option_map};
 ghost use Rattle.vk_kinds.specs.declared.kinds.Isa.{Isa as IsaOf};
-ghost use Rattle.vk_words.specs.Asked.{IsIsa, IsTurns, IsTurnsText, IsVl, IsVlText};
+ghost use Rattle.vk_kinds.specs.declared.kinds.Target.{Target as TargetOf};
+ghost use Rattle.vk_words.specs.Asked.{IsIsa, IsTarget, IsTurns, IsTurnsText, IsVl, IsVlText};
 
-use vk_kinds::Isa;
+use vk_kinds::{Isa, Target};
 
 // The number of turns that a text says.
 fn turns_of_text(text: &str) -> Option<u32>
@@ -75,5 +76,17 @@ pub fn vl_of(text: Option<&str>) -> Option<Option<u32>>
             Some(n) => Some(Some(n)),
             None => None,
         },
+    }
+}
+
+/// The machine that a text names.
+pub fn target_of(text: &str) -> Option<Target>
+    ensures found { IfSome result (λ target. IsTarget (Some text.now) target) }
+    ensures none { IsNone result → (target : TargetOf) → IsTarget (Some text.now) target → ⊥ }
+{
+    match text {
+        "x86-64" => Some(Target::X86),
+        "aarch64" => Some(Target::Arm),
+        _ => None,
     }
 }

@@ -1,6 +1,7 @@
 use std::alloc::{AllocError, Global};
 use std::test::Fail;
 use vk_io::{Memory, Words};
+use vk_kinds::Target;
 use vk_words::{Request, WordFail, request_of};
 
 // Words, separated by blanks, and what they ask: the command with its values, or the rule that they break.
@@ -79,7 +80,7 @@ static OTHERS: [(&str, &str); 16] = [
     ("demangles f", "P2"),
     ("help", "P2"),
     ("--help", "P2"),
-    ("mangle --target x86-64 u", "P2"),
+    ("mangle --target x86-64 u", "mangle x86-64 u"),
     ("clone --target x86-64 -o o u", "P2"),
     ("link --isa b -o i o", "P2"),
     ("run i", "P2"),
@@ -100,6 +101,13 @@ fn split(alloc: Global, text: &str) -> Result<Words, Memory> {
     Ok(words)
 }
 
+fn target_word(target: Target) -> &'static str {
+    match target {
+        Target::X86 => "x86-64",
+        Target::Arm => "aarch64",
+    }
+}
+
 // What was read of words, as the tables have it.
 fn told(alloc: Global, read: Result<Request, WordFail>) -> Result<String, AllocError> {
     match read {
@@ -110,6 +118,9 @@ fn told(alloc: Global, read: Result<Request, WordFail>) -> Result<String, AllocE
                 write!(text, " {argument}")?;
             }
             Ok(text)
+        }
+        Ok(Request::Mangle(request)) => {
+            format!(in alloc; "mangle {} {}", target_word(request.target), request.unit)
         }
         Err(WordFail::Fault(rule)) => String::from_str(alloc, rule.label()),
         Err(WordFail::Memory) => String::from_str(alloc, "no memory"),

@@ -1,21 +1,13 @@
 -- What the words of the commands over units and of the generator ask.
 use Rattle.std.specs.Prelude.{◌≡◌, ◌⊎◌, ◌≤◌, ℕ, true, List, ◌∷◌, codes, decimal, length, Option, Some, None}
 use Rattle.clap.specs.Words.{Text, takes}
-use Rattle.vk_words.specs.Tables.{clone_table, gen_table, mangle_table, units_table}
+use Rattle.vk_words.specs.Tables.{clone_table, gen_table, units_table}
 use Rattle.vk_words.specs.Reading.{value_at, values_at}
-use Rattle.vk_words.specs.Asked.{IsIsa, IsTurns, IsVl}
+use Rattle.vk_words.specs.Asked.{IsIsa, IsTarget, IsTurns, IsVl}
 use Rattle.vk_kinds.specs.declared.kinds.Isa.{Isa}
 use Rattle.vk_kinds.specs.declared.kinds.Target.{Target}
-use Rattle.vk_kinds.specs.declared.kinds.Target.TheVariants.{X86, Arm}
 
 -- ---- values
-
-abbrev pub target_text : Target → Text
-target_text X86 = codes "x86-64"
-target_text Arm = codes "aarch64"
-
-abbrev pub IsTarget : Option Text → Target → Type 0
-IsTarget text target = text ≡ Some (target_text target)
 
 -- a number of generated functions, as its text says it
 pub record IsFunctionsText (text : Text) (n : ℕ) : Type 0 where
@@ -28,21 +20,6 @@ IsFunctions None n = ⊥
 IsFunctions (Some text) n = IsFunctionsText text n
 
 -- ---- commands
-
--- mangle --target T UNIT
-pub record MangleAsked : Type 0 where
-  pub target : Target
-  pub unit : Text
-
-pub record IsMangle (words : List Text) (r : MangleAsked) : Type 0 where
-  pub taken : takes mangle_table words ≡ true
-  pub target : IsTarget (value_at mangle_table (codes "target") words) r.target
-  pub unit : value_at mangle_table (codes "UNIT") words ≡ Some r.unit
-
--- P4 of it
-pub record IsMangleUnstated (words : List Text) : Type 0 where
-  pub taken : takes mangle_table words ≡ true
-  pub target : (target : Target) → IsTarget (value_at mangle_table (codes "target") words) target → ⊥
 
 -- clone --target T -o OBJ UNIT
 pub record CloneAsked : Type 0 where

@@ -2,12 +2,8 @@
 use Rattle.std.specs.Prelude.{map}
 use Rattle.vk_words_units.specs.declared.clone.CloneRequest.{CloneRequest}
 use Rattle.vk_words_units.specs.declared.generator.GenRequest.{GenRequest}
-use Rattle.vk_words_units.specs.declared.mangle.MangleRequest.{MangleRequest}
 use Rattle.vk_words_units.specs.declared.units.UnitsRequest.{UnitsRequest}
-use Rattle.vk_words_units.specs.Asked.{CloneAsked, GenAsked, MangleAsked, UnitsAsked}
-
-abbrev pub mangle_asked : MangleRequest → MangleAsked
-mangle_asked r = record { target = r.target; unit = r.unit.now }
+use Rattle.vk_words_units.specs.Asked.{CloneAsked, GenAsked, UnitsAsked}
 
 abbrev pub clone_asked : CloneRequest → CloneAsked
 clone_asked r = record { target = r.target; object = r.object.now; unit = r.unit.now }

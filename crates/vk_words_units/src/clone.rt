@@ -6,12 +6,12 @@ ghost use Rattle.vk_words.specs.Tables.{clone_table};
 ghost use Rattle.vk_words_units.specs.Asked.{IsClone, IsCloneUnstated};
 ghost use Rattle.vk_words_units.specs.Views.{clone_asked};
 
-use crate::values::target_of;
 use std::alloc::Global;
 use vk_kinds::Target;
 use vk_words::getters::needed;
 use vk_words::matching::{NoRequest, read};
 use vk_words::tables::clone_command;
+use vk_words::values::target_of;
 
 /// The object of a unit.
 #[derive(Clone, Copy)]

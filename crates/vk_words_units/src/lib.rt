@@ -1,14 +1,12 @@
-//! The words of the commands over units, `mangle`, `clone`, `read` and `all`, and of the generator `gen`: what they ask, by the
+//! The words of the commands over units, `clone`, `read` and `all`, and of the generator `gen`: what they ask, by the
 //! tables of `vk_words`.
 #![tactic(auto)]
 
 pub mod clone;
 pub mod generator;
-pub mod mangle;
 pub mod units;
 pub mod values;
 
 pub use clone::{CloneRequest, clone_of};
 pub use generator::{GenRequest, gen_of};
-pub use mangle::{MangleRequest, mangle_of};
 pub use units::{UnitsRequest, units_of};

@@ -1,25 +1,10 @@
 // Values that only these commands have.
 
 ghost use Rattle.std.specs.Prelude.{◌≡◌, ℕ, Some, IfSome, IsNone};
-ghost use Rattle.vk_kinds.specs.declared.kinds.Target.{Target as TargetOf};
-ghost use Rattle.vk_words_units.specs.Asked.{IsFunctions, IsTarget};
-
-use vk_kinds::Target;
+ghost use Rattle.vk_words_units.specs.Asked.{IsFunctions};
 
 /// The most functions that the generator makes.
 pub const MAX_FUNCTIONS: u32 = 200;
-
-/// The machine that a text names.
-pub fn target_of(text: &str) -> Option<Target>
-    ensures found { IfSome result (λ target. IsTarget (Some text.now) target) }
-    ensures none { IsNone result → (target : TargetOf) → IsTarget (Some text.now) target → ⊥ }
-{
-    match text {
-        "x86-64" => Some(Target::X86),
-        "aarch64" => Some(Target::Arm),
-        _ => None,
-    }
-}
 
 /// The number of functions that a text says: 1 to 200, in decimal with no sign and no leading zero.
 pub fn functions_of(text: &str) -> Option<u32>

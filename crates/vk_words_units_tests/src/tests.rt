@@ -3,10 +3,10 @@ use std::alloc::{AllocError, Global};
 use std::test::Fail;
 use vk_io::{Memory, Words};
 use vk_kinds::{Isa, Target};
+use vk_words::MangleRequest;
+use vk_words::mangle::mangle_of;
 use vk_words::matching::NoRequest;
-use vk_words_units::{
-    CloneRequest, GenRequest, MangleRequest, UnitsRequest, clone_of, gen_of, mangle_of, units_of,
-};
+use vk_words_units::{CloneRequest, GenRequest, UnitsRequest, clone_of, gen_of, units_of};
 
 // The words of a text.
 fn split(alloc: Global, text: &str) -> Result<Words, Memory> {

@@ -1,9 +1,8 @@
-use Rattle.std.proofs.Common.{◌≡◌, ◌<◌, length, arith, refl, rules, sym, ◌∙◌, Some, subst}
-use Rattle.std.specs.Prelude.{slice_get}
+use Rattle.std.proofs.Common.{◌<◌, length, arith, refl, rules, sym, ◌∙◌, subst}
 use Rattle.std.proofs.lemmas.Option.{slice_get_read}
 use Rattle.vk_steps.specs.Places.{listing}
-use Rattle.vk_calls.specs.Fetched.{IsFetched, sorted}
-use Rattle.vk_calls.proofs.Parts.{some_operation, sorted_is}
+use Rattle.vk_calls.specs.Fetched.{IsFetched}
+use Rattle.vk_calls.proofs.Parts.{sorted_is}
 use Rattle.vk_calls.proofs.fetch.fetch.Goals as goal
 
 pub returns : goal.returns

@@ -1,12 +1,10 @@
-use Rattle.std.proofs.Common.{◌≡◌, ◌<◌, length, arith, refl, rules, subst, sym, ap, ◌∙◌}
+use Rattle.std.proofs.Common.{◌<◌, length, arith, refl, rules}
 use Rattle.std.proofs.lemmas.Option.{slice_get_read}
 use Rattle.std.proofs.lemmas.List.{length-map}
-use Rattle.vk_code.specs.Listing.{call_site_of, listing_of, simd_site_of}
+use Rattle.vk_code.specs.Listing.{simd_site_of}
 use Rattle.vk_object.specs.Images.{is_within}
-use Rattle.vk_object.specs.Tables.{entry_list_of}
-use Rattle.vk_runs.proofs.Reached.{lanes_few, slots_linked}
 use Rattle.vk_steps.specs.Places.{entry, listing, tables}
-use Rattle.vk_calls.proofs.Callees.{called_within, code_there, does_enter, instrs_short, loop_at, loops_linked, loops_within, mapped, pairs_length, target_at, target_types_at, within_some, within_there}
+use Rattle.vk_calls.proofs.Callees.{loop_at, loops_linked, loops_within, mapped, pairs_length, within_there}
 use Rattle.vk_calls.proofs.found.find_simd.Goals as goal
 
 pub index-targets-requires : goal.index-targets-requires

@@ -1,6 +1,6 @@
 use Rattle.std.proofs.Common.{Bor, List, ℕ, map, sym, subst}
-use Rattle.vk_words.specs.Command.{command_of, demangle, lanes}
-use Rattle.vk_words.specs.Views.{lanes_asked}
+use Rattle.vk_words.specs.Command.{command_of, demangle, lanes, mangle}
+use Rattle.vk_words.specs.Views.{lanes_asked, mangle_asked}
 use Rattle.vk_words.specs.declared.request.Request.{Request}
 use Rattle.vk_ends.specs.declared.ends.End.{End}
 use Rattle.vk_cmd_lanes.specs.Lanes.{LanesHolds}
@@ -23,3 +23,9 @@ returns-in-Lanes-clause-holds g c =
     (g.O.Sink.state c.lanes-end.new.out) c.report-in-Lanes.result) (sym c.in-Lanes.is)
     (told_holds (lanes (lanes_asked request)) _ _ _ _ c.lanes-end.result c.report-in-Lanes.result c.report-in-Lanes.ensures.end
     (subst (λ texts. Of texts c.lanes-end.result) c.deref.ensures.value c.lanes-end.ensures))
+
+pub returns-in-Mangle-clause-holds : goal.returns-in-Mangle-clause-holds
+returns-in-Mangle-clause-holds g c =
+    subst (λ (q : Request). CommandHolds (command_of q) (g.S.Store.state c.args.store.now) (g.S.Store.state c.mangle-end.new.store) (g.O.Sink.state c.args.out.now)
+    (g.O.Sink.state c.mangle-end.new.out) c.report-in-Mangle.result) (sym c.in-Mangle.is)
+    (told_holds (mangle (mangle_asked c.in-Mangle.request)) _ _ _ _ c.mangle-end.result c.report-in-Mangle.result c.report-in-Mangle.ensures.end c.mangle-end.ensures)

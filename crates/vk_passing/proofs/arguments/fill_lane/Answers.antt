@@ -1,4 +1,4 @@
-use Rattle.std.proofs.Common.{◌≡◌, arith, sym, ◌∙◌}
+use Rattle.std.proofs.Common.{arith}
 use Rattle.vk_frames.specs.Frames.{lanes_of}
 use Rattle.vk_frames.proofs.Fitting.{fits_then}
 use Rattle.vk_passing.proofs.Filling.{last_argument, next_argument}

@@ -3,7 +3,7 @@ use Rattle.std.specs.Prelude.{codes}
 use Rattle.clap.specs.Words.{Text}
 use Rattle.vk_words.specs.Tables.{clone_table}
 use Rattle.vk_words.proofs.Known.{as_table, found_at, held_at, holds_at, is_there}
-use Rattle.vk_words_units.specs.Asked.{IsTarget}
+use Rattle.vk_words.specs.Asked.{IsTarget}
 use Rattle.vk_words_units.proofs.clone.clone_of.Goals as goal
 
 pub needed-requires : goal.needed-requires

@@ -1,0 +1,3 @@
+mod Identifiers
+pub mod Readings
+mod Said

@@ -1,0 +1,5 @@
+use Rattle.vk_cmd_mangle.proofs.Lined.{one_text}
+use Rattle.vk_cmd_mangle.proofs.laws.one_answer.Goals as goal
+
+pub returns : goal.returns
+returns c = one_text

@@ -1,0 +1,5 @@
+pub mod Fields
+pub mod Parameters
+pub mod Codes
+pub mod Values
+pub mod Places

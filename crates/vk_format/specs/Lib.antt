@@ -1,0 +1,4 @@
+pub mod Labels
+pub mod Format
+pub mod Codec
+pub mod Bytes

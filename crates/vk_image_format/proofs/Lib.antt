@@ -1,0 +1,3 @@
+mod Changed
+mod Examples
+pub mod Inverse

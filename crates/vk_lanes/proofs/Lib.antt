@@ -1,0 +1,6 @@
+pub mod Bits
+pub mod InRows
+pub mod Operators
+pub mod Typed
+pub mod Vectors
+pub mod Written

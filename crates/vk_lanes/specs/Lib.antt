@@ -1,0 +1,4 @@
+pub mod Inner
+pub mod Kernels
+pub mod Masks
+pub mod Words

@@ -1,0 +1,11 @@
+pub mod World
+pub mod Types
+pub mod Data
+pub mod Points
+pub mod Expressions
+pub mod Guards
+pub mod Statements
+pub mod Programs
+pub mod Meaning
+pub mod Lanes
+pub mod LaneWise

@@ -1,0 +1,11 @@
+mod Sights
+mod Expressions
+mod Variables
+mod Effects
+mod Statements
+mod Calls
+mod Locality
+mod Frame
+mod Words
+mod Arguments
+mod OneAnswer

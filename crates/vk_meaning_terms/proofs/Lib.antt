@@ -1,0 +1,3 @@
+mod Depth
+mod Ranges
+pub mod Zero

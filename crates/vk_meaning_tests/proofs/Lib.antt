@@ -1,0 +1,6 @@
+mod Forms
+mod Functions
+mod Programs
+mod Order
+mod Guards
+mod Cells

@@ -1,0 +1,7 @@
+//! Objects as bytes: the one table of their fields, from which writing, reading and the order of judging follow.
+#![tactic(auto)]
+
+pub mod laws;
+pub mod rows;
+
+pub use rows::{RawCodes, RawData, RawDirective, RawFunction, RawObject};

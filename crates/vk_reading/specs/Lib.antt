@@ -1,0 +1,4 @@
+pub mod Held
+pub mod Cells
+pub mod Reading
+pub mod Variables

@@ -1,0 +1,5 @@
+//! Tests of the parts of the reader that take memory.
+#![tactic(auto)]
+
+#[cfg(test)]
+mod tests;

@@ -1,0 +1,5 @@
+pub mod Functions
+pub mod UnitNames
+pub mod Verdicts
+pub mod Entries
+pub mod Inner

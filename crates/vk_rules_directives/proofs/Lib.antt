@@ -1,0 +1,9 @@
+mod Constants
+mod Firsts
+mod Givens
+mod Listed
+mod Lists
+mod Pushes
+mod Redeclared
+mod Said
+mod Types

@@ -1,0 +1,4 @@
+//! What holds of units that break no rule.
+#![tactic(auto)]
+
+pub mod laws;
