@@ -1,32 +1,29 @@
 -- What the types of a call say of its arguments.
 use Rattle.std.proofs.Common.{◌≡◌, ℕ, zero, suc, ◌+◌, ◌<◌, ◌≤◌, ◌==◌, nat_le, nat_lt, Bool, true, false, not, ◌&&◌, ◌||◌, cond, ℤ, List, [], ◌∷◌, length, map, take, Option, Some, None, refl, ap, sym, subst, ◌∙◌, arith}
-use Rattle.std.specs.Prelude.{slice_get, pos}
+use Rattle.std.specs.Prelude.{slice_get}
 use Rattle.std.specs.List.{list_all}
 use Rattle.std.proofs.lemmas.Bool.{eqb-true, false≢true, leb-true, ltb-true}
-use Rattle.std.proofs.lemmas.Option.{none-some, same_Some}
-use Rattle.std.proofs.lemmas.List.{length-map, length-take-le}
 use Rattle.vk_types.specs.Formats.{type_number}
 use Rattle.vk_kinds.specs.declared.heads.CType.{CType}
 use Rattle.vk_kinds.specs.declared.heads.CType.TheVariants.{Void, Int, Ptr}
 use Rattle.vk_kinds.specs.declared.kinds.Kind.{Kind}
 use Rattle.vk_kinds.specs.declared.kinds.Kind.TheVariants.{Vector, Uniform, Linear, Ref, Val, Uval}
-use Rattle.vk_kinds.specs.declared.kinds.Step.{Step}
 use Rattle.vk_kinds.specs.declared.kinds.Step.TheVariants.{Arg}
 use Rattle.vk_kinds.specs.declared.kinds.Param.{Param}
 use Rattle.vk_kinds.specs.Types.{ctype_number}
 use Rattle.vk_code.specs.declared.code.SlotArg.{SlotArg}
 use Rattle.vk_code.specs.Listing.{CallSite, Listing, Routine, number_of_some, reg_type}
-use Rattle.vk_code.specs.Tests.{all_good, holds, pairs}
+use Rattle.vk_code.specs.Tests.{holds, pairs}
 use Rattle.vk_code.specs.Valid.{has_good_counts, has_good_registers, is_good_head, is_integer, is_result, result_type}
 use Rattle.vk_code.proofs.Faults.{and_left, and_right}
 use Rattle.vk_object.specs.Images.{are_entries, arg_types, code_of, has_lanes, has_slot_types, is_call, is_chunk, is_entry, is_entry_byte, is_equal, is_function_code, is_image, is_linked, is_loop, is_number_of, is_ordinary, is_rest, is_row, is_variant, param_types, result_of, suits}
 use Rattle.vk_object.specs.Lane.{LaneState}
-use Rattle.vk_object.specs.Machine.{arg_reg, first_lane, kind_at, kind_in, moved_by, passed, reg_of}
+use Rattle.vk_object.specs.Machine.{first_lane, kind_in, moved_by, passed, reg_of}
 use Rattle.vk_object.specs.Texts.{between}
-use Rattle.vk_object.specs.Parameters.{are_kinds, are_typed, is_aligned_at, is_kind_at, is_param_at, is_step_at}
+use Rattle.vk_object.specs.Parameters.{are_kinds, are_typed, is_aligned_at, is_kind_at, is_param_at}
 use Rattle.vk_object.specs.Tables.{EntryLists, Tables}
 use Rattle.vk_runs.specs.Words.{AreArguments, HasWords, IsWordOf}
-use Rattle.vk_runs.proofs.Reached.{all_at, carried, holds_at, image_parts, pairs_at}
+use Rattle.vk_runs.proofs.Reached.{all_at, holds_at, image_parts, pairs_at}
 use Rattle.vk_runs.proofs.Words.{at_number, canonical_wrap, no_integer, zero_word}
 use Rattle.vk_steps.specs.declared.place.Place.{Place}
 use Rattle.vk_steps.specs.Places.{FitsPlace, IsSound, entry, listing, regs, tables}
@@ -35,7 +32,7 @@ use Rattle.vk_frames.specs.declared.frame.Frame.{Frame}
 use Rattle.vk_frames.specs.Frames.{FitsAs, lanes_of}
 use Rattle.vk_steps.proofs.Typed.{there}
 use Rattle.vk_calls.proofs.Callees.{element, head_good, inside, pairs_length}
-use Rattle.vk_args.specs.Readable.{HasArguments, HasSteps}
+use Rattle.vk_args.specs.Readable.{HasSteps}
 
 -- ---- the head of the code where it is called
 

@@ -36,7 +36,10 @@ impl BodyArgs<'_, '_> {
         ensures low { neg_ℤ (pos (2 ^ 63)) ≤ℤ result }
         ensures high { result ≤ℤ pos (2 ^ 64) }
     {
-        number_in(ty_at(self.code, self.site.low), self.frame.word(self.site.low, 0))
+        number_in(
+            ty_at(self.code, self.site.low),
+            self.frame.word(self.site.low, 0),
+        )
     }
 
     // How many iterations come before a lane's.
@@ -53,7 +56,10 @@ impl BodyArgs<'_, '_> {
         requires lane { lane < self.now.lanes }
         ensures { result.0 ≡ body_words (listing_of self.now.code.now).routine.regs (simd_site_of self.now.site.now) (lanes_of self.now.frame.now 0) self.now.lanes self.now.base self.now.turn 0 lane }
     {
-        wrapped(ty_at(self.code, self.site.low), self.low() + i128::from(self.before(lane)))
+        wrapped(
+            ty_at(self.code, self.site.low),
+            self.low() + i128::from(self.before(lane)),
+        )
     }
 
     // A captured word.

@@ -50,7 +50,11 @@ pub fn guard_holds(place: &Place<'_>, site: &LoopSite, frame: &Frame<'_>) -> boo
 pub fn least(n: u64, turns: u32) -> u32
     ensures { result ≡ min n turns }
 {
-    if n < u64::from(turns) { n as u32 } else { turns }
+    if n < u64::from(turns) {
+        n as u32
+    } else {
+        turns
+    }
 }
 
 // How many numbers of a type there are from `low` up to `high`, exclusively.

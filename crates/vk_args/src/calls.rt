@@ -71,7 +71,10 @@ impl LaneArgs<'_, '_> {
             Step::By(bytes) => in_elements(ty, i128::from(bytes)),
             Step::Arg(q) => {
                 let register = register_of(self.slot, usize::from(q));
-                number_in(ty_at(self.code, register), self.frame.word(register, self.first))
+                number_in(
+                    ty_at(self.code, register),
+                    self.frame.word(register, self.first),
+                )
             }
         }
     }
@@ -143,7 +146,8 @@ impl Arguments for OneLane<'_, '_> {
     ghost on = { λ a i. i == 0 };
 
     fn word(&self, parameter: u16, _lane: usize) -> Word {
-        self.frame.word(register_of(self.slot, usize::from(parameter)), self.lane)
+        self.frame
+            .word(register_of(self.slot, usize::from(parameter)), self.lane)
     }
 
     fn is_on(&self, lane: usize) -> bool {

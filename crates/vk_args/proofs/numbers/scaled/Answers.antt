@@ -1,6 +1,6 @@
-use Rattle.std.proofs.Common.{◌≤ℤ◌, neg_ℤ, pos, ◌^◌, ◌*ℤ◌, arith, subst, sym}
+use Rattle.std.proofs.Common.{◌≤ℤ◌, neg_ℤ, pos, ◌^◌, arith, subst, sym}
 use Rattle.std.proofs.lemmas.Int.{ints}
-use Rattle.vk_args.proofs.Products.{product_back, product_fits, small_product}
+use Rattle.vk_args.proofs.Products.{product_back, small_product}
 use Rattle.vk_args.proofs.numbers.scaled.Goals as goal
 
 pub returns-clause-product : goal.returns-clause-product

@@ -1,8 +1,8 @@
-use Rattle.std.proofs.Common.{◌≡◌, ◌+◌, ◌*◌, ◌<◌, ◌≤◌, ℕ, Bool, ◌==◌, arith, ap, rules, refl, sym, subst, ◌∙◌}
-use Rattle.std.specs.Prelude.{nat_lt, slice_get}
-use Rattle.vk_code.specs.Listing.{call_site_of, reg_type, simd_site_of}
-use Rattle.vk_object.specs.Lane.{LaneState, is_live, number_at}
-use Rattle.vk_object.specs.Machine.{arg_reg, body_args, first_lane, first_live, kind_at, lane_args}
+use Rattle.std.proofs.Common.{◌<◌, arith, ap, rules, sym, subst, ◌∙◌}
+use Rattle.std.specs.Prelude.{slice_get}
+use Rattle.vk_code.specs.Listing.{call_site_of}
+use Rattle.vk_object.specs.Lane.{is_live, number_at}
+use Rattle.vk_object.specs.Machine.{arg_reg, first_lane, kind_at, lane_args}
 use Rattle.vk_frames.specs.Frames.{lanes_of}
 use Rattle.vk_runs.proofs.Reached.{carried}
 use Rattle.vk_steps.specs.Places.{entry, listing, regs, site}
