@@ -1,21 +1,21 @@
 -- What an image says of the entries that a place calls.
-use Rattle.std.proofs.Common.{◌≡◌, ℕ, zero, suc, ◌+◌, ◌<◌, ◌≤◌, ◌==◌, max, nat_le, nat_lt, Bool, true, false, ◌&&◌, ◌||◌, cond, List, [], ◌∷◌, ◌++◌, length, map, Option, Some, None, IfSome, ◌⊎◌, inl, inr, refl, ap, sym, subst, ◌∙◌, arith}
+use Rattle.std.proofs.Common.{◌≡◌, ℕ, zero, suc, ◌+◌, ◌<◌, ◌≤◌, ◌==◌, max, Bool, true, false, ◌&&◌, cond, List, [], ◌∷◌, ◌++◌, length, map, Option, Some, None, IfSome, ◌⊎◌, inl, inr, refl, ap, sym, subst, ◌∙◌, arith}
 use Rattle.std.specs.Prelude.{slice_get}
 use Rattle.std.specs.List.{list_all}
 use Rattle.std.specs.Option.{option_and_then, option_map}
-use Rattle.std.proofs.lemmas.Bool.{eqb-true, false≢true, ltb-true}
+use Rattle.std.proofs.lemmas.Bool.{eqb-true, false≢true}
 use Rattle.std.proofs.lemmas.List.Folds.{list_all-append}
-use Rattle.std.proofs.lemmas.Option.{none-some, same_Some, slice_get-map}
+use Rattle.std.proofs.lemmas.Option.{none-some, same_Some}
 use Rattle.std.proofs.Math.Nat.{le-max_left, le-max_right}
 use Rattle.vk_code.specs.Listing.{CallSite, Listing, SimdSite}
-use Rattle.vk_code.specs.Tests.{all_good, holds, pairs}
+use Rattle.vk_code.specs.Tests.{all_good, holds}
 use Rattle.vk_code.specs.Valid.{body_verdicts, has_callee, has_good_args, is_good_head, is_good_loop, is_good_slot, is_result, verdicts}
 use Rattle.vk_code.proofs.Faults.{and_left, and_right}
 use Rattle.vk_object.specs.declared.tables.EntryKind.{EntryKind}
 use Rattle.vk_object.specs.declared.tables.EntryKind.TheVariants.{Ordinary, Scalar, N, M, Chunk, Rest}
 use Rattle.vk_object.specs.declared.tables.LoopTargets.{LoopTargets}
 use Rattle.vk_object.specs.Images.{are_entries, chain_cells, code_of, frame_cells, greatest, has_body, has_lanes, has_slot_types, is_call, is_code, is_entry_byte, is_image, is_number_of, is_row, is_variant, may_call, names_of}
-use Rattle.vk_object.specs.Machine.{Simd, Site, Target, simd_of, target_of}
+use Rattle.vk_object.specs.Machine.{Simd, Target, simd_of, target_of}
 use Rattle.vk_object.specs.Parameters.{are_kinds}
 use Rattle.vk_object.specs.Tables.{EntryLists, Tables}
 use Rattle.vk_object.specs.Texts.{between}
@@ -23,8 +23,9 @@ use Rattle.vk_runs.proofs.Reached.{all_at, holds_at, image_parts, pairs_at, row_
 use Rattle.vk_steps.specs.declared.place.Place.{Place}
 use Rattle.vk_steps.specs.Places.{IsSound, called_cells, entry, listing, regs, site, tables}
 use Rattle.vk_calls.specs.Found.{IsCallee}
-use Rattle.vk_calls.proofs.Callees.{callee_at, mapped, tables_same}
+use Rattle.vk_calls.proofs.Callees.{callee_at, tables_same}
 use Rattle.vk_entries.specs.Callees.{HasRoom}
+use Rattle.vk_entries.proofs.Results.{result_there}
 
 -- ---- a code's slots and loops are good
 
@@ -51,10 +52,6 @@ good_at : {A : Type 0} (p : A → Bool) (xs : List A) → all_good (map p xs) �
 good_at p [] h k x e = absurd (none-some x e)
 good_at p (y ∷ xs) h zero x e = subst (λ z. p z ≡ true) (same_Some y x e) (and_left (p y) (all_good (map p xs)) h)
 good_at p (y ∷ xs) h (suc k) x e = good_at p xs (and_right (p y) (all_good (map p xs)) h) k x e
-
-result_there : (n : ℕ) (o : Option ℕ) → is_result n o ≡ true → IfSome o (λ r. r < n)
-result_there n None h = tt
-result_there n (Some r) h = ltb-true r n h
 
 pub slot_register : (p : Place) → IsSound p → (k : ℕ) (slot : CallSite) → slice_get (listing p).routine.slots k ≡ Some slot → IfSome slot.result (λ r. r < length (regs p))
 slot_register p s k slot e =

@@ -1,5 +1,5 @@
 -- What a place calls, with all that its caller needs.
-use Rattle.std.specs.Prelude.{◌≡◌, ℕ, ◌+◌, ◌<◌, ◌≤◌, length, Option, IfSome, Some}
+use Rattle.std.specs.Prelude.{◌≡◌, ℕ, ◌+◌, ◌<◌, ◌≤◌, length, IfSome, Some}
 use Rattle.vk_code.specs.Listing.{call_site_of}
 use Rattle.vk_object.specs.Images.{frame_cells}
 use Rattle.vk_steps.specs.declared.place.Place.{Place}

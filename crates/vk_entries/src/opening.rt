@@ -25,5 +25,10 @@ pub fn frame_of<'a>(place: &Place<'_>, words: &'a mut [Word]) -> Frame<'a>
     ensures fits { FitsPlace place.now result }
     ensures empty { lanes_of result ≡ no_lanes }
 {
-    Frame::new(words, place.code.regs.len(), usize::from(place.code.masks), usize::from(place.entry.lanes))
+    Frame::new(
+        words,
+        place.code.regs.len(),
+        usize::from(place.code.masks),
+        usize::from(place.entry.lanes),
+    )
 }
