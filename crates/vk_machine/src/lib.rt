@@ -1,5 +1,5 @@
 //! The machine that runs the entries of an image.
 #![tactic(auto)]
 
-pub mod pass;
+pub mod locals;
 pub mod run;

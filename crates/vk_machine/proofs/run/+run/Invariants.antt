@@ -18,23 +18,29 @@ decreases-run_block g l = l.place.now.depth * 2 ^ 40 + 4 * (length (listing l.pl
 abbrev pub decreases-repeat_block : goal.decreases-repeat_block
 decreases-repeat_block g l = l.place.now.depth * 2 ^ 40 + 4 * (length (listing l.place.now).routine.instrs - l.from) + 5
 
+abbrev pub decreases-perform : goal.decreases-perform
+decreases-perform g l = l.place.now.depth * 2 ^ 40 + 4 * (length (listing l.place.now).routine.instrs - l.at) + 3
+
 abbrev pub decreases-call_slot : goal.decreases-call_slot
-decreases-call_slot g l = l.place.now.depth * 2 ^ 40 + 3
+decreases-call_slot g l = l.place.now.depth * 2 ^ 40 + 2
 
 abbrev pub decreases-call : goal.decreases-call
-decreases-call g l = l.place.now.depth * 2 ^ 40 + 2
+decreases-call g l = l.place.now.depth * 2 ^ 40 + 1
 
 abbrev pub decreases-call_each : goal.decreases-call_each
-decreases-call_each g l = l.place.now.depth * 2 ^ 40 + 2
+decreases-call_each g l = l.place.now.depth * 2 ^ 40 + 1
 
 abbrev pub decreases-call_one : goal.decreases-call_one
-decreases-call_one g l = l.place.now.depth * 2 ^ 40 + 1
+decreases-call_one g l = l.place.now.depth * 2 ^ 40
 
 abbrev pub decreases-run_simd : goal.decreases-run_simd
 decreases-run_simd g l = l.place.now.depth * 2 ^ 40 + 2
 
+abbrev pub decreases-call_all_turns : goal.decreases-call_all_turns
+decreases-call_all_turns g l = l.place.now.depth * 2 ^ 40 + 1
+
 abbrev pub decreases-call_in_turn : goal.decreases-call_in_turn
-decreases-call_in_turn g l = l.place.now.depth * 2 ^ 40 + 1
+decreases-call_in_turn g l = l.place.now.depth * 2 ^ 40
 
 abbrev pub invariant-call_each-loop-lane : goal.invariant-call_each-loop-lane
 invariant-call_each-loop-lane g l = record {
