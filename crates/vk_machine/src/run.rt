@@ -14,6 +14,7 @@ ghost use Rattle.vk_entries.specs.Callees.{IsCall, IsLoop, IsTurn};
 ghost use Rattle.vk_machine.specs.Performed.{performed};
 ghost use Rattle.vk_machine.specs.Ready.{IsReady, Keeps};
 
+use crate::handing::{hand_back, hand_over};
 use crate::locals::{change, length_of};
 use vk_access::Store;
 use vk_access::accesses::access;
@@ -134,6 +135,7 @@ fn call<O: Sink>(place: &Place<'_>, memory: &mut Store, out: &mut O, frame: &mut
     requires ready { IsReady place.now frame.old memory.old cells.old }
     requires mask { m < (listing place.now).routine.masks }
     requires found { IsCall place.now slot found.now }
+    requires same { (entry found.now.place).lanes ≡ (entry place.now).lanes }
     ensures keeps { Keeps place.now frame.new memory.new }
     ensures runs { Runs result (lanes_of frame.old) (lanes_of frame.new) (outer_of memory.old (O.state out.old)) (outer_of memory.new (O.state out.new))
         (call_all (site place.now) m (call_site_of found.now.slot.now) (entry found.now.place) (enters found.now.place.number (site found.now.place))) }
@@ -146,7 +148,9 @@ fn call<O: Sink>(place: &Place<'_>, memory: &mut Store, out: &mut O, frame: &mut
     let (words, rest) = cells.split_at_mut(frame_size(inner));
     let mut callee = frame_of(inner, words);
     pass_all(place, found, frame, m, first, &mut callee);
+    hand_over(place, inner, memory, &callee, rest);
     enter(inner, memory, out, &mut callee, rest)?;
+    hand_back(place, inner, memory);
     take_all(frame, &callee, m, found.slot.result, inner.code.result);
     Ok(())
 }
@@ -186,7 +190,9 @@ fn call_one<O: Sink>(place: &Place<'_>, memory: &mut Store, out: &mut O, frame: 
     let (words, rest) = cells.split_at_mut(frame_size(inner));
     let mut callee = frame_of(inner, words);
     pass_one(place, found, frame, lane, &mut callee);
+    hand_over(place, inner, memory, &callee, rest);
     enter(inner, memory, out, &mut callee, rest)?;
+    hand_back(place, inner, memory);
     take(frame, &callee, found.slot.result, inner.code.result, 0, lane);
     Ok(())
 }
@@ -251,7 +257,9 @@ fn call_in_turn<O: Sink>(place: &Place<'_>, memory: &mut Store, out: &mut O, fra
         let (words, rest) = cells.split_at_mut(frame_size(inner));
         let mut callee = frame_of(inner, words);
         pass_body(place, body, frame, base, turn, &mut callee);
+        hand_over(place, inner, memory, &callee, rest);
         enter(inner, memory, out, &mut callee, rest)?;
+        hand_back(place, inner, memory);
         if let Some(stop) = lowest_stop(&callee) {
             return Ok(Some(stop));
         }
