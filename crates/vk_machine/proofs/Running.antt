@@ -55,5 +55,5 @@ again_out lanes m block n w e h = ap (λ k. again lanes m block k w) e ∙ ap (�
 pub run_loop_at : (s : Site) (is : List Instr) (at n x m k : ℕ) (i : Instr) (w : World) → slice_get is at ≡ Some i → 0 < n → block_of i ≡ Some x → i.m ≡ m → k ≡ n - 1 - x →
     run s (drop at is) zero n w ≡ run s (drop (at + 1 + x) is) zero k (again s.entry.lanes m (λ v. run s (drop (at + 1) is) zero x v) s.turns w)
 run_loop_at s is at n x m k i w h p b e f = run_loop s is at n x i w h p b
-  ∙ (ap (λ q. run s (drop (at + 1 + x) is) zero (n - 1 - x) (again s.entry.lanes q (λ v. run s (drop (at + 1) is) zero x v) s.turns w)) e
-  ∙ ap (λ q. run s (drop (at + 1 + x) is) zero q (again s.entry.lanes m (λ v. run s (drop (at + 1) is) zero x v) s.turns w)) (sym f))
+    ∙ (ap (λ q. run s (drop (at + 1 + x) is) zero (n - 1 - x) (again s.entry.lanes q (λ v. run s (drop (at + 1) is) zero x v) s.turns w)) e
+    ∙ ap (λ q. run s (drop (at + 1 + x) is) zero q (again s.entry.lanes m (λ v. run s (drop (at + 1) is) zero x v) s.turns w)) (sym f))

@@ -19,7 +19,14 @@ use vk_steps::Place;
 use vk_steps::rows::operate;
 
 /// An operation on registers and masks in each lane: the memory and the sink stay as they are.
-pub fn change<O: Sink>(place: &Place<'_>, memory: &Store, out: &O, frame: &mut Frame<'_>, instr: Instr, operation: Operation)
+pub fn change<O: Sink>(
+    place: &Place<'_>,
+    memory: &Store,
+    out: &O,
+    frame: &mut Frame<'_>,
+    instr: Instr,
+    operation: Operation,
+)
     requires sound { IsSound place.now }
     requires fits { FitsPlace place.now frame.old }
     requires good { IsGood place.now instr operation }

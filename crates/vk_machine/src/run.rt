@@ -19,9 +19,9 @@ use crate::locals::{change, length_of};
 use vk_access::Store;
 use vk_access::accesses::access;
 use vk_access::store::count;
-use vk_calls::fetch::{Fetched, fetch};
 use vk_args::bounds::{guard_holds, iterations, least};
 use vk_args::pass::{pass_all, pass_body, pass_one};
+use vk_calls::fetch::{Fetched, fetch};
 use vk_calls::found::{Body, Found, FoundSimd};
 use vk_entries::callees::{find_call, find_loop};
 use vk_entries::opening::{frame_of, frame_size};
@@ -35,7 +35,13 @@ use vk_types::{Stop, Word};
 
 /// Calls an entry whose first frame is filled.
 #[cycle(run)]
-pub fn enter<O: Sink>(place: &Place<'_>, memory: &mut Store, out: &mut O, frame: &mut Frame<'_>, cells: &mut [Word]) -> Result<(), Outside>
+pub fn enter<O: Sink>(
+    place: &Place<'_>,
+    memory: &mut Store,
+    out: &mut O,
+    frame: &mut Frame<'_>,
+    cells: &mut [Word],
+) -> Result<(), Outside>
     requires ready { IsReady place.now frame.old memory.old cells.old }
     ensures keeps { Keeps place.now frame.new memory.new }
     ensures runs { Runs result (lanes_of frame.old) (lanes_of frame.new) (outer_of memory.old (O.state out.old)) (outer_of memory.new (O.state out.new))
@@ -47,7 +53,15 @@ pub fn enter<O: Sink>(place: &Place<'_>, memory: &mut Store, out: &mut O, frame:
 
 /// Runs `count` instructions from `from` on.
 #[cycle(run)]
-fn run_block<O: Sink>(place: &Place<'_>, memory: &mut Store, out: &mut O, frame: &mut Frame<'_>, cells: &mut [Word], from: usize, count: usize) -> Result<(), Outside>
+fn run_block<O: Sink>(
+    place: &Place<'_>,
+    memory: &mut Store,
+    out: &mut O,
+    frame: &mut Frame<'_>,
+    cells: &mut [Word],
+    from: usize,
+    count: usize,
+) -> Result<(), Outside>
     requires ready { IsReady place.now frame.old memory.old cells.old }
     requires part { IsPart place.now from count }
     ensures keeps { Keeps place.now frame.new memory.new }
@@ -68,7 +82,16 @@ fn run_block<O: Sink>(place: &Place<'_>, memory: &mut Store, out: &mut O, frame:
 
 /// Performs one instruction, with its block if it has one.
 #[cycle(run)]
-fn perform<O: Sink>(place: &Place<'_>, memory: &mut Store, out: &mut O, frame: &mut Frame<'_>, cells: &mut [Word], at: usize, left: usize, fetched: Fetched) -> Result<(), Outside>
+fn perform<O: Sink>(
+    place: &Place<'_>,
+    memory: &mut Store,
+    out: &mut O,
+    frame: &mut Frame<'_>,
+    cells: &mut [Word],
+    at: usize,
+    left: usize,
+    fetched: Fetched,
+) -> Result<(), Outside>
     requires ready { IsReady place.now frame.old memory.old cells.old }
     requires inside { at + left ≤ length (listing place.now).routine.instrs }
     requires some { 0 < left }
@@ -78,7 +101,16 @@ fn perform<O: Sink>(place: &Place<'_>, memory: &mut Store, out: &mut O, frame: &
         (performed place.now at fetched) }
 {
     match fetched {
-        Fetched::Block(m, size) => repeat_block(place, memory, out, frame, cells, m, at + 1, size as usize),
+        Fetched::Block(m, size) => repeat_block(
+            place,
+            memory,
+            out,
+            frame,
+            cells,
+            m,
+            at + 1,
+            size as usize,
+        ),
         Fetched::Calls(instr, slot) => call_slot(place, memory, out, frame, cells, instr.m, slot),
         Fetched::Simd(instr, number) => run_simd(place, memory, out, frame, cells, instr.m, number),
         Fetched::Accesses(instr, operation) => access(place, memory, out, frame, instr, operation),
@@ -91,7 +123,16 @@ fn perform<O: Sink>(place: &Place<'_>, memory: &mut Store, out: &mut O, frame: &
 
 /// Runs a block again and again, while a lane is live in a mask.
 #[cycle(run)]
-fn repeat_block<O: Sink>(place: &Place<'_>, memory: &mut Store, out: &mut O, frame: &mut Frame<'_>, cells: &mut [Word], m: u16, from: usize, count: usize) -> Result<(), Outside>
+fn repeat_block<O: Sink>(
+    place: &Place<'_>,
+    memory: &mut Store,
+    out: &mut O,
+    frame: &mut Frame<'_>,
+    cells: &mut [Word],
+    m: u16,
+    from: usize,
+    count: usize,
+) -> Result<(), Outside>
     requires ready { IsReady place.now frame.old memory.old cells.old }
     requires part { IsPart place.now from count }
     requires mask { m < (listing place.now).routine.masks }
@@ -113,7 +154,15 @@ fn repeat_block<O: Sink>(place: &Place<'_>, memory: &mut Store, out: &mut O, fra
 
 /// The call of a slot.
 #[cycle(run)]
-fn call_slot<O: Sink>(place: &Place<'_>, memory: &mut Store, out: &mut O, frame: &mut Frame<'_>, cells: &mut [Word], m: u16, slot: u32) -> Result<(), Outside>
+fn call_slot<O: Sink>(
+    place: &Place<'_>,
+    memory: &mut Store,
+    out: &mut O,
+    frame: &mut Frame<'_>,
+    cells: &mut [Word],
+    m: u16,
+    slot: u32,
+) -> Result<(), Outside>
     requires ready { IsReady place.now frame.old memory.old cells.old }
     requires mask { m < (listing place.now).routine.masks }
     requires slot { slot < length (listing place.now).routine.slots }
@@ -131,7 +180,16 @@ fn call_slot<O: Sink>(place: &Place<'_>, memory: &mut Store, out: &mut O, frame:
 
 /// A call for all lanes at once.
 #[cycle(run)]
-fn call<O: Sink>(place: &Place<'_>, memory: &mut Store, out: &mut O, frame: &mut Frame<'_>, cells: &mut [Word], m: u16, found: &Found<'_>, slot: u32) -> Result<(), Outside>
+fn call<O: Sink>(
+    place: &Place<'_>,
+    memory: &mut Store,
+    out: &mut O,
+    frame: &mut Frame<'_>,
+    cells: &mut [Word],
+    m: u16,
+    found: &Found<'_>,
+    slot: u32,
+) -> Result<(), Outside>
     requires ready { IsReady place.now frame.old memory.old cells.old }
     requires mask { m < (listing place.now).routine.masks }
     requires found { IsCall place.now slot found.now }
@@ -157,7 +215,16 @@ fn call<O: Sink>(place: &Place<'_>, memory: &mut Store, out: &mut O, frame: &mut
 
 /// A call of an entry of one lane, for each lane that is live.
 #[cycle(run)]
-fn call_each<O: Sink>(place: &Place<'_>, memory: &mut Store, out: &mut O, frame: &mut Frame<'_>, cells: &mut [Word], m: u16, found: &Found<'_>, slot: u32) -> Result<(), Outside>
+fn call_each<O: Sink>(
+    place: &Place<'_>,
+    memory: &mut Store,
+    out: &mut O,
+    frame: &mut Frame<'_>,
+    cells: &mut [Word],
+    m: u16,
+    found: &Found<'_>,
+    slot: u32,
+) -> Result<(), Outside>
     requires ready { IsReady place.now frame.old memory.old cells.old }
     requires mask { m < (listing place.now).routine.masks }
     requires found { IsCall place.now slot found.now }
@@ -173,7 +240,17 @@ fn call_each<O: Sink>(place: &Place<'_>, memory: &mut Store, out: &mut O, frame:
 
 /// A call of an entry of one lane, for a lane if it is live.
 #[cycle(run)]
-fn call_one<O: Sink>(place: &Place<'_>, memory: &mut Store, out: &mut O, frame: &mut Frame<'_>, cells: &mut [Word], m: u16, found: &Found<'_>, slot: u32, lane: usize) -> Result<(), Outside>
+fn call_one<O: Sink>(
+    place: &Place<'_>,
+    memory: &mut Store,
+    out: &mut O,
+    frame: &mut Frame<'_>,
+    cells: &mut [Word],
+    m: u16,
+    found: &Found<'_>,
+    slot: u32,
+    lane: usize,
+) -> Result<(), Outside>
     requires ready { IsReady place.now frame.old memory.old cells.old }
     requires mask { m < (listing place.now).routine.masks }
     requires found { IsCall place.now slot found.now }
@@ -193,13 +270,28 @@ fn call_one<O: Sink>(place: &Place<'_>, memory: &mut Store, out: &mut O, frame: 
     hand_over(place, inner, memory, &callee, rest);
     enter(inner, memory, out, &mut callee, rest)?;
     hand_back(place, inner, memory);
-    take(frame, &callee, found.slot.result, inner.code.result, 0, lane);
+    take(
+        frame,
+        &callee,
+        found.slot.result,
+        inner.code.result,
+        0,
+        lane,
+    );
     Ok(())
 }
 
 /// A simd loop, in lane 0.
 #[cycle(run)]
-fn run_simd<O: Sink>(place: &Place<'_>, memory: &mut Store, out: &mut O, frame: &mut Frame<'_>, cells: &mut [Word], m: u16, number: u32) -> Result<(), Outside>
+fn run_simd<O: Sink>(
+    place: &Place<'_>,
+    memory: &mut Store,
+    out: &mut O,
+    frame: &mut Frame<'_>,
+    cells: &mut [Word],
+    m: u16,
+    number: u32,
+) -> Result<(), Outside>
     requires ready { IsReady place.now frame.old memory.old cells.old }
     requires mask { m < (listing place.now).routine.masks }
     requires number { number < (listing place.now).routine.loops }
@@ -220,7 +312,16 @@ fn run_simd<O: Sink>(place: &Place<'_>, memory: &mut Store, out: &mut O, frame: 
 
 /// The calls of a simd loop's body, of which so many iterations are asked for.
 #[cycle(run)]
-fn call_all_turns<O: Sink>(place: &Place<'_>, memory: &mut Store, out: &mut O, frame: &Frame<'_>, cells: &mut [Word], found: &FoundSimd<'_>, number: u32, asked: u64) -> Result<Option<Stop>, Outside>
+fn call_all_turns<O: Sink>(
+    place: &Place<'_>,
+    memory: &mut Store,
+    out: &mut O,
+    frame: &Frame<'_>,
+    cells: &mut [Word],
+    found: &FoundSimd<'_>,
+    number: u32,
+    asked: u64,
+) -> Result<Option<Stop>, Outside>
     requires ready { IsReady place.now frame.now memory.old cells.old }
     requires found { IsLoop place.now number found.now }
     requires some { 0 < (entry place.now).lanes }
@@ -228,23 +329,50 @@ fn call_all_turns<O: Sink>(place: &Place<'_>, memory: &mut Store, out: &mut O, f
     ensures store { FitsStore place.now.image.now memory.new }
     ensures runs { RunsCalls result (outer_of memory.old (O.state out.old)) (outer_of memory.new (O.state out.new))
         (λ mem. all_calls (enters found.now.chunk.place.number (site found.now.chunk.place)) (enters found.now.rest.place.number (site found.now.rest.place)) (body_args (site place.now) (simd_site_of found.now.chunk.site.now) (lanes_of frame.now 0))
-            (entry found.now.chunk.place).lanes (guard_holds (lanes_of frame.now 0) (simd_site_of found.now.chunk.site.now).guards) (min asked place.now.turns) mem) }
+        (entry found.now.chunk.place).lanes (guard_holds (lanes_of frame.now 0) (simd_site_of found.now.chunk.site.now).guards) (min asked place.now.turns) mem) }
 {
     let most = least(asked, place.turns);
     if !guard_holds(place, found.chunk.site, frame) {
         return call_in_turn(place, memory, out, frame, cells, &found.rest, 0, most);
     }
     let lanes = u32::from(found.chunk.place.entry.lanes);
-    let stop = call_in_turn(place, memory, out, frame, cells, &found.chunk, 0, most / lanes)?;
+    let stop = call_in_turn(
+        place,
+        memory,
+        out,
+        frame,
+        cells,
+        &found.chunk,
+        0,
+        most / lanes,
+    )?;
     if stop.is_some() {
         return Ok(stop);
     }
-    call_in_turn(place, memory, out, frame, cells, &found.rest, most / lanes * lanes, most % lanes)
+    call_in_turn(
+        place,
+        memory,
+        out,
+        frame,
+        cells,
+        &found.rest,
+        most / lanes * lanes,
+        most % lanes,
+    )
 }
 
 /// Calls of the body of a simd loop, one after the other, until one stops.
 #[cycle(run)]
-fn call_in_turn<O: Sink>(place: &Place<'_>, memory: &mut Store, out: &mut O, frame: &Frame<'_>, cells: &mut [Word], body: &Body<'_>, base: u32, count: u32) -> Result<Option<Stop>, Outside>
+fn call_in_turn<O: Sink>(
+    place: &Place<'_>,
+    memory: &mut Store,
+    out: &mut O,
+    frame: &Frame<'_>,
+    cells: &mut [Word],
+    body: &Body<'_>,
+    base: u32,
+    count: u32,
+) -> Result<Option<Stop>, Outside>
     requires ready { IsReady place.now frame.now memory.old cells.old }
     requires body { IsTurn place.now body.now }
     requires some { 0 < (entry place.now).lanes }

@@ -23,7 +23,6 @@ alive lanes n m l r b e f h = ap (λ k. any_live k m l) (sym e) ∙ (sym f ∙ h
 less_0 : (k : ℕ) → k ≡ k - 0
 less_0 k = omega arith
 
-
 pub repeat_block-loop-init : goal.repeat_block-loop-init
 repeat_block-loop-init g n c = record {
   ready = c.requires.ready;
@@ -31,28 +30,28 @@ repeat_block-loop-init g n c = record {
 }
 
 pub repeat_block-returns-then-not-any_live-clause-runs : goal.repeat_block-returns-then-not-any_live-clause-runs
-repeat_block-returns-then-not-any_live-clause-runs g n c = 
+repeat_block-returns-then-not-any_live-clause-runs g n c =
     let block : World → World = λ v. run (site c.args.place.now) (drop c.args.from (listing c.args.place.now).routine.instrs) zero c.args.count v in
     let lanes = (entry c.args.place.now).lanes in
     leads_as World _ _ _ _ _ _ (λ m. refl) (λ m. again_done lanes c.args.m block (c.args.place.now.turns - c.loop.counter) (world (lanes_of c.loop.frame) m) (alive lanes c.loop.frame.lanes c.args.m (lanes_of c.loop.frame) c.any_live.result false c.loop.invariant.ready.fits.shape.lanes_are c.any_live.ensures c.if-not-any_live.true)) c.loop.invariant.leads
 
 pub repeat_block-loop-preserved : goal.repeat_block-loop-preserved
-repeat_block-loop-preserved g n c = 
+repeat_block-loop-preserved g n c =
     let block : World → World = λ v. run (site c.args.place.now) (drop c.args.from (listing c.args.place.now).routine.instrs) zero c.args.count v in
     let lanes = (entry c.args.place.now).lanes in
     record {
       ready = record { sound = c.loop.invariant.ready.sound; fits = c.run_block.ensures.keeps.fits; store = c.run_block.ensures.keeps.store; room = search rules };
       leads = goes_on _ _ _ (lanes_of c.loop.frame) (lanes_of c.run_block.new.frame) _ (λ w. again lanes c.args.m block (c.args.place.now.turns - c.loop.counter) w) (λ w. again lanes c.args.m block (c.args.place.now.turns - (c.loop.counter + 1)) w) block
-        c.loop.invariant.leads c.in_ok-run_block.ensures.runs
-        (λ m. again_more lanes c.args.m block (c.args.place.now.turns - c.loop.counter) (c.args.place.now.turns - (c.loop.counter + 1)) (world (lanes_of c.loop.frame) m) (omega (arith, c.loop-test.true)) (omega arith) (alive lanes c.loop.frame.lanes c.args.m (lanes_of c.loop.frame) c.any_live.result true c.loop.invariant.ready.fits.shape.lanes_are c.any_live.ensures c.if-not-any_live.false));
+          c.loop.invariant.leads c.in_ok-run_block.ensures.runs
+          (λ m. again_more lanes c.args.m block (c.args.place.now.turns - c.loop.counter) (c.args.place.now.turns - (c.loop.counter + 1)) (world (lanes_of c.loop.frame) m) (omega (arith, c.loop-test.true)) (omega arith) (alive lanes c.loop.frame.lanes c.args.m (lanes_of c.loop.frame) c.any_live.result true c.loop.invariant.ready.fits.shape.lanes_are c.any_live.ensures c.if-not-any_live.false));
     }
 
 pub repeat_block-returns-then-any_live-clause-runs : goal.repeat_block-returns-then-any_live-clause-runs
-repeat_block-returns-then-any_live-clause-runs g n c = 
+repeat_block-returns-then-any_live-clause-runs g n c =
     let block : World → World = λ v. run (site c.args.place.now) (drop c.args.from (listing c.args.place.now).routine.instrs) zero c.args.count v in
     let lanes = (entry c.args.place.now).lanes in
     leads_as World _ _ _ _ _ _ (λ m. refl) (λ m. again_out lanes c.args.m block (c.args.place.now.turns - c.loop.counter) (world (lanes_of c.loop.frame) m) (omega (arith, c.loop-test.false)) (alive lanes c.loop.frame.lanes c.args.m (lanes_of c.loop.frame) c.any_live-2.result true c.loop.invariant.ready.fits.shape.lanes_are c.any_live-2.ensures c.if-any_live.true)
-      ∙ ap (λ (f : ℕ → LaneState). world f m) (sym c.stop_turns.ensures.lanes)) c.loop.invariant.leads
+    ∙ ap (λ (f : ℕ → LaneState). world f m) (sym c.stop_turns.ensures.lanes)) c.loop.invariant.leads
 
 pub run_block-loop-left-init : goal.run_block-loop-left-init
 run_block-loop-left-init g n c = record {
@@ -63,7 +62,7 @@ run_block-loop-left-init g n c = record {
 }
 
 pub run_block-returns-clause-runs : goal.run_block-returns-clause-runs
-run_block-returns-clause-runs g n c = 
+run_block-returns-clause-runs g n c =
     let s = site c.args.place.now in
     let is = (listing c.args.place.now).routine.instrs in
     let z : c.loop-left.left ≡ 0 = omega (arith, c.loop-left-test.false) in
@@ -96,7 +95,7 @@ call_slot-returns-else-found-eq1-clause-runs g n c =
     let found = c.find_call-found.result in
     let is = c.find_call-found.ensures.is in
     let t : Target = record { slot = call_site_of found.slot.now; number = found.place.number; entry = entry found.place } in
-    runs_as c.call.result _ _ _ _ _ _ (λ m. target_all (site p) c.args.m c.args.slot (world (lanes_of c.args.frame.now) m) t (enters found.place.number (site found.place)) is.target is.callee.does (λ e. ?)) c.call.ensures.runs
+    runs_as c.call.result _ _ _ _ _ _ (λ m. target_all (site p) c.args.m c.args.slot (world (lanes_of c.args.frame.now) m) t (enters found.place.number (site found.place)) is.target is.callee.does (λ e. c.if-found-eq1.false e)) c.call.ensures.runs
 
 pub call_each-loop-lane-init : goal.call_each-loop-lane-init
 call_each-loop-lane-init g n c = record { ready = c.requires.ready; goes = leads_same World _ _ _ (λ e. told_twice _) (λ m. refl) }
@@ -181,3 +180,66 @@ enter-run_block-requires g n c = ?
 
 pub repeat_block-returns-then-any_live-clause-keeps : goal.repeat_block-returns-then-any_live-clause-keeps
 repeat_block-returns-then-any_live-clause-keeps g n c = ?
+
+pub call-pass_all-requires-clause-first : goal.call-pass_all-requires-clause-first
+call-pass_all-requires-clause-first g n c = ?
+
+pub call_all_turns-call_in_turn-requires : goal.call_all_turns-call_in_turn-requires
+call_all_turns-call_in_turn-requires g n c = ?
+
+pub call_all_turns-returns-then-not-guard_holds-clause-runs : goal.call_all_turns-returns-then-not-guard_holds-clause-runs
+call_all_turns-returns-then-not-guard_holds-clause-runs g n c = ?
+
+pub call_all_turns-call_in_turn-requires-2 : goal.call_all_turns-call_in_turn-requires-2
+call_all_turns-call_in_turn-requires-2 g n c = ?
+
+pub call_all_turns-returns-in_err-stop-clause-runs : goal.call_all_turns-returns-in_err-stop-clause-runs
+call_all_turns-returns-in_err-stop-clause-runs g n c = ?
+
+pub call_all_turns-returns-then-is_some-clause-runs : goal.call_all_turns-returns-then-is_some-clause-runs
+call_all_turns-returns-then-is_some-clause-runs g n c = ?
+
+pub call_all_turns-call_in_turn-requires-3 : goal.call_all_turns-call_in_turn-requires-3
+call_all_turns-call_in_turn-requires-3 g n c = ?
+
+pub call_all_turns-returns-clause-runs : goal.call_all_turns-returns-clause-runs
+call_all_turns-returns-clause-runs g n c = ?
+
+pub call_each-call_one-requires : goal.call_each-call_one-requires
+call_each-call_one-requires g n c = ?
+
+pub call_in_turn-loop-turn-init : goal.call_in_turn-loop-turn-init
+call_in_turn-loop-turn-init g n c = ?
+
+pub call_in_turn-returns-clause-runs : goal.call_in_turn-returns-clause-runs
+call_in_turn-returns-clause-runs g n c = ?
+
+pub perform-run_simd-requires : goal.perform-run_simd-requires
+perform-run_simd-requires g n c = ?
+
+pub perform-returns-in-Block-clause-runs : goal.perform-returns-in-Block-clause-runs
+perform-returns-in-Block-clause-runs g n c = ?
+
+pub perform-returns-in-Calls-clause-runs : goal.perform-returns-in-Calls-clause-runs
+perform-returns-in-Calls-clause-runs g n c = ?
+
+pub perform-returns-in-Simd-clause-runs : goal.perform-returns-in-Simd-clause-runs
+perform-returns-in-Simd-clause-runs g n c = ?
+
+pub perform-returns-in-Accesses-clause-runs : goal.perform-returns-in-Accesses-clause-runs
+perform-returns-in-Accesses-clause-runs g n c = ?
+
+pub run_block-returns-in_err-perform-clause-runs : goal.run_block-returns-in_err-perform-clause-runs
+run_block-returns-in_err-perform-clause-runs g n c = ?
+
+pub run_block-loop-left-preserved : goal.run_block-loop-left-preserved
+run_block-loop-left-preserved g n c = ?
+
+pub run_simd-returns-then-not-is_live-clause-runs : goal.run_simd-returns-then-not-is_live-clause-runs
+run_simd-returns-then-not-is_live-clause-runs g n c = ?
+
+pub run_simd-returns-in_err-stop-clause-runs : goal.run_simd-returns-in_err-stop-clause-runs
+run_simd-returns-in_err-stop-clause-runs g n c = ?
+
+pub run_simd-returns-clause-runs : goal.run_simd-returns-clause-runs
+run_simd-returns-clause-runs g n c = ?

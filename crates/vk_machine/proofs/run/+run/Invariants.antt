@@ -46,15 +46,15 @@ abbrev pub invariant-call_each-loop-lane : goal.invariant-call_each-loop-lane
 invariant-call_each-loop-lane g l = record {
   ready : IsReady l.place l.frame l.memory l.cells;
   goes : Goes (lanes_of l.fn.frame) (lanes_of l.frame) (outer_of l.fn.memory (g.O.Sink.state l.fn.out)) (outer_of l.memory (g.O.Sink.state l.out))
-    (sweep l.lane (call_one l.m (call_site_of l.found.slot.now) (enters l.found.place.number (site l.found.place))));
+      (sweep l.lane (call_one l.m (call_site_of l.found.slot.now) (enters l.found.place.number (site l.found.place))));
 }
 
 abbrev pub invariant-repeat_block-loop : goal.invariant-repeat_block-loop
 invariant-repeat_block-loop g l = record {
   ready : IsReady l.place l.frame l.memory l.cells;
   leads : Leads World (outer_of l.fn.memory (g.O.Sink.state l.fn.out)) (outer_of l.memory (g.O.Sink.state l.out))
-    (λ mem. again (entry l.place).lanes l.m (λ v. run (site l.place) (drop l.from (listing l.place).routine.instrs) zero l.count v) l.place.turns (world (lanes_of l.fn.frame) mem))
-    (λ mem. again (entry l.place).lanes l.m (λ v. run (site l.place) (drop l.from (listing l.place).routine.instrs) zero l.count v) (l.place.turns - l.counter) (world (lanes_of l.frame) mem));
+      (λ mem. again (entry l.place).lanes l.m (λ v. run (site l.place) (drop l.from (listing l.place).routine.instrs) zero l.count v) l.place.turns (world (lanes_of l.fn.frame) mem))
+      (λ mem. again (entry l.place).lanes l.m (λ v. run (site l.place) (drop l.from (listing l.place).routine.instrs) zero l.count v) (l.place.turns - l.counter) (world (lanes_of l.frame) mem));
 }
 
 abbrev pub invariant-run_block-loop-left : goal.invariant-run_block-loop-left
@@ -63,8 +63,8 @@ invariant-run_block-loop-left g l = record {
   part : IsPart l.place l.at l.left;
   past : l.fn.from ≤ l.at;
   leads : Leads World (outer_of l.fn.memory (g.O.Sink.state l.fn.out)) (outer_of l.memory (g.O.Sink.state l.out))
-    (λ mem. run (site l.place) (drop l.from (listing l.place).routine.instrs) zero l.count (world (lanes_of l.fn.frame) mem))
-    (λ mem. run (site l.place) (drop l.at (listing l.place).routine.instrs) zero l.left (world (lanes_of l.frame) mem));
+      (λ mem. run (site l.place) (drop l.from (listing l.place).routine.instrs) zero l.count (world (lanes_of l.fn.frame) mem))
+      (λ mem. run (site l.place) (drop l.at (listing l.place).routine.instrs) zero l.left (world (lanes_of l.frame) mem));
 }
 
 abbrev pub decreases-run_block-loop-left : goal.decreases-run_block-loop-left
@@ -74,6 +74,6 @@ abbrev pub invariant-call_in_turn-loop-turn : goal.invariant-call_in_turn-loop-t
 invariant-call_in_turn-loop-turn g l = record {
   ready : IsReady l.place l.frame l.memory l.cells;
   leads : Leads Ran (outer_of l.fn.memory (g.O.Sink.state l.fn.out)) (outer_of l.memory (g.O.Sink.state l.out))
-    (λ mem. calls_in_turn (enters l.body.place.number (site l.body.place)) (body_args (site l.place) (simd_site_of l.body.site.now) (lanes_of l.frame 0) (entry l.body.place).lanes l.base) (entry l.body.place).lanes l.count 0 mem)
-    (λ mem. calls_in_turn (enters l.body.place.number (site l.body.place)) (body_args (site l.place) (simd_site_of l.body.site.now) (lanes_of l.frame 0) (entry l.body.place).lanes l.base) (entry l.body.place).lanes (l.count - l.turn) l.turn mem);
+      (λ mem. calls_in_turn (enters l.body.place.number (site l.body.place)) (body_args (site l.place) (simd_site_of l.body.site.now) (lanes_of l.frame 0) (entry l.body.place).lanes l.base) (entry l.body.place).lanes l.count 0 mem)
+      (λ mem. calls_in_turn (enters l.body.place.number (site l.body.place)) (body_args (site l.place) (simd_site_of l.body.site.now) (lanes_of l.frame 0) (entry l.body.place).lanes l.base) (entry l.body.place).lanes (l.count - l.turn) l.turn mem);
 }
