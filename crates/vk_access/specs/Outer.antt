@@ -1,12 +1,13 @@
 -- What is outside the frames of calls: cells, counts and a sink; and what a part of a run does to them.
-use Rattle.std.specs.Prelude.{◌≡◌, ℕ, ◌+◌, ◌-◌, ◌^◌, min, Bool, cond, ℤ, IsTrue, List, [], ◌∷◌, ◌++◌, Result, Ok, Err, slice_index, codes}
+use Rattle.std.specs.Prelude.{◌≡◌, ℕ, ◌+◌, ◌-◌, ◌^◌, min, Bool, Option, cond, ℤ, IsTrue, List, [], ◌∷◌, ◌++◌, Result, Ok, Err, slice_index, codes}
 use Rattle.std.specs.Fmt.{signed_decimal}
 use Rattle.vk_io.specs.declared.outside.Outside.{Outside}
 use Rattle.vk_io.specs.declared.outside.Outside.TheVariants.{Failed, Memory as NoMemory}
 use Rattle.vk_io.specs.Counts.{Rose}
 use Rattle.vk_io.specs.Sink.{GrowsWithin, Puts, SinkState, Stays}
 use Rattle.vk_object.specs.Lane.{LaneState}
-use Rattle.vk_object.specs.Machine.{World}
+use Rattle.vk_types.specs.declared.types.Stop.{Stop}
+use Rattle.vk_object.specs.Machine.{Ran, World}
 use Rattle.vk_object.specs.Memory.{Event, Prints, Calls, Memory, calls_of}
 use Rattle.vk_access.specs.declared.store.Store.{Store}
 use Rattle.vk_access.specs.Cells.{cells_in}
@@ -70,3 +71,8 @@ Runs (Err fault) l k a b F = Breaks a b fault (λ mem. (F (world l mem)).mem)
 -- the line of the number was put, where the lane is live
 abbrev pub PutsLive : Bool → List ℕ → List ℕ → Result (Unit {0}) Outside → ℤ → Type 0
 PutsLive live old new r n = Puts old new r (cond live (signed_decimal n ++ codes "\n") [])
+
+-- calls one after another, which F makes, with the stop that ended them; or the sink failed in them
+abbrev pub RunsCalls : Result (Option Stop) Outside → Outer → Outer → (Memory → Ran) → Type 0
+RunsCalls (Ok stop) a b F = Leads Ran a b F (λ mem. record { stop = stop; mem = mem })
+RunsCalls (Err fault) a b F = Breaks a b fault (λ mem. (F mem).mem)

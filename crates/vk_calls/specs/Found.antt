@@ -1,5 +1,5 @@
 -- The entries that a slot and a simd loop call.
-use Rattle.std.specs.Prelude.{◌≡◌, ℕ, ◌<◌, true, length, Some}
+use Rattle.std.specs.Prelude.{◌≡◌, ℕ, ◌+◌, ◌<◌, true, length, Some}
 use Rattle.vk_code.specs.Listing.{call_site_of, simd_site_of}
 use Rattle.vk_object.specs.Images.{has_loop_types, has_slot_types, is_within}
 use Rattle.vk_object.specs.Machine.{enters, entry_at, simd_of, target_of}
@@ -14,7 +14,7 @@ pub record IsCallee (p q : Place) : Type 0 where
   pub sound : IsSound q
   pub image : q.image.now ≡ p.image.now
   pub turns : q.turns ≡ p.turns
-  pub deeper : q.depth < p.depth
+  pub deeper : p.depth ≡ q.depth + 1
   pub does : entry_at (tables p) p.turns p.depth q.number ≡ enters q.number (site q)
 
 -- an entry of the image, with chains of calls that the place allows

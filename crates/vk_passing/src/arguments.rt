@@ -11,7 +11,9 @@ use vk_types::Word;
 
 /// The words that a call passes, one for each parameter and lane, and the lanes that it gives.
 pub trait Arguments {
-    /// How many parameters and lanes there are; the words, and the lanes that are on.
+    /// When the words can be read; how many parameters and lanes there are; the words, and the lanes that are on.
+    ghost good: { Self → Type 0 };
+
     ghost params: { Self → ℕ };
 
     ghost lanes: { Self → ℕ };
@@ -22,13 +24,15 @@ pub trait Arguments {
 
     /// The word of a parameter in a lane.
     fn word(&self, parameter: u16, lane: usize) -> Word
+        requires good { good self.now }
         requires parameter { parameter < params self.now }
         requires lane { lane < lanes self.now }
         ensures { result.0 ≡ words self.now parameter lane };
 
     /// Whether a lane is on.
     fn is_on(&self, lane: usize) -> bool
-        requires { lane < lanes self.now }
+        requires good { good self.now }
+        requires lane { lane < lanes self.now }
         ensures { result ≡ on self.now lane };
 }
 
@@ -38,6 +42,7 @@ pub fn fill<A: Arguments>(callee: &mut Frame<'_>, args: &A, params: u16)
     requires empty { lanes_of callee.old ≡ no_lanes }
     requires mask { 0 < callee.old.masks }
     requires registers { params ≤ callee.old.registers }
+    requires good { A.good args.now }
     requires params { A.params args.now ≡ params }
     requires lanes { A.lanes args.now ≡ callee.old.lanes }
     ensures fits { FitsAs callee.old callee.new }
@@ -54,6 +59,7 @@ fn fill_lane<A: Arguments>(callee: &mut Frame<'_>, args: &A, params: u16, lane: 
     requires empty { lanes_of callee.old lane ≡ no_lanes lane }
     requires mask { 0 < callee.old.masks }
     requires registers { params ≤ callee.old.registers }
+    requires good { A.good args.now }
     requires params { A.params args.now ≡ params }
     requires lanes { A.lanes args.now ≡ callee.old.lanes }
     requires lane { lane < callee.old.lanes }
