@@ -13,7 +13,7 @@ use vk_code::code::{Code, LoopSite};
 use vk_frames::Frame;
 use vk_passing::arguments::Arguments;
 use vk_steps::registers::ty_at;
-use vk_types::Word;
+use vk_types::{Ty, Word};
 
 /// The words of call number `turn` of a loop's body, for iterations from `base` on: the iteration's number, and the captured words of
 /// lane 0. All lanes are on.
@@ -26,6 +26,15 @@ pub struct BodyArgs<'a, 'b> {
     pub lanes: u16,
     pub base: u32,
     pub turn: u32,
+}
+
+// The pattern of the number that comes so many iterations behind the first.
+fn numbered(ty: Ty, low: i128, before: u64) -> Word
+    requires low { neg_ℤ (pos (2 ^ 63)) ≤ℤ low }
+    requires high { low ≤ℤ pos (2 ^ 64) }
+    ensures { result.0 ≡ word_of (wrap_number ty (low +ℤ pos before)) }
+{
+    wrapped(ty, low + i128::from(before))
 }
 
 impl BodyArgs<'_, '_> {
@@ -56,10 +65,9 @@ impl BodyArgs<'_, '_> {
         requires lane { lane < self.now.lanes }
         ensures { result.0 ≡ body_words (listing_of self.now.code.now).routine.regs (simd_site_of self.now.site.now) (lanes_of self.now.frame.now 0) self.now.lanes self.now.base self.now.turn 0 lane }
     {
-        wrapped(
-            ty_at(self.code, self.site.low),
-            self.low() + i128::from(self.before(lane)),
-        )
+        let low = self.low();
+        let before = self.before(lane);
+        numbered(ty_at(self.code, self.site.low), low, before)
     }
 
     // A captured word.
