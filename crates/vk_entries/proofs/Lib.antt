@@ -1,2 +1,3 @@
 pub mod Results
+mod Untouched
 pub mod Targets
