@@ -23,7 +23,7 @@ LENGTHS = (2, 4, 8, 16)
 
 
 def directive(rng, params):
-    """One directive on these parameters, each a name, a type and 'value', 'read' or 'written'."""
+    """What a directive says of these parameters, each a name, a type and 'value', 'read' or 'written', and its text."""
     clauses = []
     uniform = [p for p in params if p[2] != "written" and rng.random() < 0.3]
     if uniform:
@@ -37,17 +37,18 @@ def directive(rng, params):
     for p in params:
         if p[2] != "value" and rng.random() < 0.4:
             clauses.append(f"aligned({p[0]}:{rng.choice((4, 8, 16, 32, 64))})")
+    shape = frozenset(clauses)
     if rng.random() < 0.3:
         clauses.append(f"simdlen({rng.choice(LENGTHS)})")
     branch = rng.choice((None, "inbranch", "notinbranch"))
     if branch:
         clauses.append(branch)
     rng.shuffle(clauses)
-    return " ".join(["#pragma omp declare simd", *clauses])
+    return shape, " ".join(["#pragma omp declare simd", *clauses])
 
 
 def function(rng, number):
-    """A definition of a function with one to three directives."""
+    """A definition of a function with one to three directives, which say different things of the parameters."""
     params = []
     for k in range(rng.randrange(0, 5)):
         params.append((f"p{k}", rng.choice(list(TYPES)), rng.choice(("value", "value", "read", "written"))))
@@ -55,8 +56,8 @@ def function(rng, number):
     words = ", ".join(shown[kind].format(t=t, n=n) for n, t, kind in params) or "void"
     result = rng.choice(("void", *TYPES))
     body = "" if result == "void" else " return 1;"
-    lines = {directive(rng, params) for _ in range(rng.randrange(1, 4))}
-    return "\n".join([*sorted(lines), f"{result} f{number}({words}) {{{body} }}"])
+    lines = dict(directive(rng, params) for _ in range(rng.randrange(1, 4)))
+    return "\n".join([*lines.values(), f"{result} f{number}({words}) {{{body} }}"])
 
 
 # Where compilers differ, by class: a unit, and the names of letters b and c that it has here, from gcc 12 and from clang 14.
