@@ -1,0 +1,4 @@
+pub mod Rules
+pub mod Writing
+pub mod Moving
+pub mod Pointers

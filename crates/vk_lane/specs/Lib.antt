@@ -1,0 +1,6 @@
+pub mod Places
+pub mod Pieces
+pub mod Writes
+pub mod Cells
+pub mod Runs
+pub mod Entries
