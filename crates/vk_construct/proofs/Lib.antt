@@ -1,0 +1,5 @@
+pub mod Values
+pub mod Choices
+pub mod Operands
+pub mod Applying
+pub mod Good

@@ -1,0 +1,2 @@
+//! Constructs of the language, as code that is appended: what each does in every lane.
+#![tactic(auto)]
