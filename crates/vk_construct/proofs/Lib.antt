@@ -3,3 +3,5 @@ pub mod Choices
 pub mod Operands
 pub mod Applying
 pub mod Good
+pub mod Adding
+pub mod Instructions

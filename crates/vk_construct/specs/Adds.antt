@@ -1,5 +1,5 @@
 -- Code that an emitter appends: that it is good, and what it does wherever the finished code runs.
-use Rattle.std.specs.Prelude.{◌≡◌, ◌≢◌, ℕ, zero, ◌+◌, ◌<◌, ◌≤◌, true, List, ◌++◌, length, Some, slice_get, ℤ, Result}
+use Rattle.std.specs.Prelude.{◌≡◌, ◌≢◌, ℕ, zero, ◌+◌, ◌<◌, ◌≤◌, true, List, [], ◌∷◌, ◌++◌, length, Some, slice_get, ℤ, Result}
 use Rattle.vk_types.specs.declared.types.Stop.{Stop}
 use Rattle.vk_types.specs.declared.types.Ty.{Ty}
 use Rattle.vk_kinds.specs.declared.heads.CType.{CType}
@@ -59,21 +59,30 @@ pub record Adds (old new : Written) (F : LaneCall → Change) (size depth : ℕ)
   pub does : (q : LaneCall) → HasWritten q new → Does (place_of q) Always piece (F q)
   pub short : length piece ≤ size
 
+-- one instruction has come behind, and registers of these types
+pub record Puts (old new : Written) (i : Instr) (types : List CType) : Type 0 where
+  pub instrs : new.instrs ≡ old.instrs ++ i ∷ []
+  pub regs : new.regs ≡ old.regs ++ types
+  pub slots : new.slots ≡ old.slots
+  pub masks : old.masks ≤ new.masks
+  pub params : new.params ≡ old.params
+
 -- ---- expressions
 
 -- a register of an integer type
 abbrev pub HasType : Written → (register : ℕ) → Ty → Type 0
 HasType w r t = slice_get w.regs r ≡ Some (Int t)
 
--- a number, as the lane's registers tell it, comes into register d; the first free mask is f
-abbrev pub AddsNumber : (old new : Written) → (Share → Result ℤ Stop) → Ty → (d m f size : ℕ) → Type 0
-AddsNumber old new result t d m f size = Adds old new (λ q. Applies result t d m (length old.regs) f) size 0
+-- every variable has a register of its own below k, of its type
+pub record IsTableOf (w : Written) (tb : Table) (k : ℕ) : Type 0 where
+  pub typed : (v : ℕ) → v < tb.count → slice_get w.regs (tb.reg v) ≡ Some (tb.ty v)
+  pub below : (v : ℕ) → v < tb.count → tb.reg v < k
+  pub apart : (u v : ℕ) → u < tb.count → v < tb.count → u ≢ v → tb.reg u ≢ tb.reg v
 
--- the value of an expression comes into register r
-abbrev pub AddsValue : (old new : Written) → Table → (Context → Evaluation) → CType → (r m f size : ℕ) → Type 0
-AddsValue old new tb e t r m f size = Adds old new (λ q. Computes (place_of q) tb (e q.context) t r m (length old.regs) f) size 0
+-- Under mask m a number comes into register d, as the lane's registers tell it. Registers below k are kept, masks from f on are free.
+abbrev pub AddsNumber : (old new : Written) → (Share → Result ℤ Stop) → Ty → (d m k f size : ℕ) → Type 0
+AddsNumber old new result t d m k f size = Adds old new (λ q. Applies result t d m k f) size 0
 
--- every variable has a register of its own, of its type
-pub record IsTableOf (w : Written) (tb : Table) : Type 0 where
-  pub typed : (k : ℕ) → k < tb.count → slice_get w.regs (tb.reg k) ≡ Some (tb.ty k)
-  pub apart : (k l : ℕ) → k < tb.count → l < tb.count → k ≢ l → tb.reg k ≢ tb.reg l
+-- the same for the value of an expression
+abbrev pub AddsValue : (old new : Written) → Table → (Context → Evaluation) → CType → (r m k f size : ℕ) → Type 0
+AddsValue old new tb e t r m k f size = Adds old new (λ q. Computes (place_of q) tb (e q.context) t r m k f) size 0
