@@ -5,3 +5,4 @@ pub mod Applying
 pub mod Good
 pub mod Adding
 pub mod Instructions
+pub mod Operators
