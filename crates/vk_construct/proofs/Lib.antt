@@ -6,3 +6,4 @@ pub mod Good
 pub mod Adding
 pub mod Instructions
 pub mod Operators
+pub mod Evaluating
