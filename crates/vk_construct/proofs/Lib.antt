@@ -7,3 +7,4 @@ pub mod Adding
 pub mod Instructions
 pub mod Operators
 pub mod Evaluating
+pub mod Trees

@@ -1,3 +1,4 @@
 pub mod Adds
 pub mod Applies
 pub mod Computes
+pub mod Trees

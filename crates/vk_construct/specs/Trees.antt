@@ -1,0 +1,26 @@
+-- Code of an expression's tree.
+use Rattle.std.specs.Prelude.{◌≡◌, ℕ, ◌+◌, ◌*◌, ◌<◌, List, length, Some}
+use Rattle.vk_types.specs.declared.types.Ty.{Ty}
+use Rattle.vk_kinds.specs.declared.heads.CType.TheVariants.{Int}
+use Rattle.vk_ast.specs.declared.names.NameId.{NameId}
+use Rattle.vk_ast.specs.Tree.{Tree, nodes_of}
+use Rattle.vk_rules_book.specs.Scopes.{Scope}
+use Rattle.vk_rules_book.specs.Typings.{number_type, typing_of}
+use Rattle.vk_meaning.specs.Points.{Variable, variable_named}
+use Rattle.vk_meaning.specs.Expressions.{value_of}
+use Rattle.vk_construct.specs.Computes.{Table}
+use Rattle.vk_construct.specs.Adds.{AddsValue, Written}
+
+-- the expression gives a number of this type
+abbrev pub HasNumber : Scope → Tree → Ty → Type 0
+HasNumber scope e t = number_type (typing_of scope e) ≡ Some t
+
+-- the table has the variables of the scope, by their numbers
+pub record AreVariables (scope : Scope) (tb : Table) : Type 0 where
+  pub there : (id : NameId) (v : Variable) → variable_named scope id ≡ Some v → v.number < tb.count
+  pub typed : (id : NameId) (v : Variable) → variable_named scope id ≡ Some v → tb.ty v.number ≡ v.ctype
+
+-- Under mask m the expression's value comes into register r, of type t, and the registers so far are kept; masks from f on are free.
+-- There are at most eight instructions a node.
+abbrev pub AddsTree : (old new : Written) → Scope → Table → Tree → Ty → (r m f : ℕ) → Type 0
+AddsTree old new scope tb e t r m f = AddsValue old new tb (λ c vs. value_of c scope vs e) (Int t) r m (length old.regs) f (8 * nodes_of e)
