@@ -8,3 +8,4 @@ pub mod Instructions
 pub mod Operators
 pub mod Evaluating
 pub mod Trees
+pub mod Logical

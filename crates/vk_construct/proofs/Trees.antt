@@ -45,7 +45,7 @@ not_pointer Nothing s e = cc
 not_pointer Function s e = cc
 not_pointer Untyped s e = cc
 
-integer_is : (t : Typing) (s : Ty) → number_type t ≡ Some s → integer_type t ≡ s
+pub integer_is : (t : Typing) (s : Ty) → number_type t ≡ Some s → integer_type t ≡ s
 integer_is (Number t) s e = cc
 integer_is (AVariable t fixed) s e = cc
 integer_is (Cell t written) s e = cc
@@ -129,7 +129,7 @@ tree_unary a b c scope tb l p op s e r d m f it lm h x y = emits_less a c tb _ (
     (emits_one a b c tb _ (unary_number op s) s (unary_type op s) r d m (length a.regs) (length b.regs) f (8 * nodes_of e) 3 it lm (no_fewer a b _ _ 0 x) x y))
 
 -- two numbers
-numbers_value : (c : Context) (scope : Scope) (vs : Variables) (l p : ℕ) (op : BinOp) (s t : Ty) (left right : Tree) (w : World) → HasNumber scope left s → HasNumber scope right t →
+pub numbers_value : (c : Context) (scope : Scope) (vs : Variables) (l p : ℕ) (op : BinOp) (s t : Ty) (left right : Tree) (w : World) → HasNumber scope left s → HasNumber scope right t →
     integers_value op s t (value_of c scope vs left) (value_of c scope vs right) w ≡ value_of c scope vs (binary l p op left right) w
 numbers_value c scope vs l p op s t left right w hl hr = sym
     (ap (λ b. cond b (and_then x (λ d. then_number y (moved_by op d))) (cond (moves_right op u v) (and_then y (λ d. then_number x (moved_by op d))) (integers_value op (integer_type u) (integer_type v) x y)) w) (no_left op u (not_pointer u s hl))
