@@ -9,3 +9,4 @@ pub mod Operators
 pub mod Evaluating
 pub mod Trees
 pub mod Logical
+pub mod Names
