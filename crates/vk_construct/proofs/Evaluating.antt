@@ -1,5 +1,5 @@
 -- Code of expressions, put together.
-use Rattle.std.proofs.Common.{arith, sym, ◌≡◌, ℕ, ◌+◌, ◌<◌, ◌≤◌, ◌==◌, Bool, true, false, cond, not, ◌&&◌, Option, Some, None, refl, subst, ap, ◌∙◌, ℤ, pos, Result, Ok, Err}
+use Rattle.std.proofs.Common.{arith, sym, ◌≡◌, ℕ, ◌+◌, ◌<◌, ◌≤◌, Bool, true, false, cond, refl, subst, ap, ◌∙◌, ℤ, pos, Result, Ok}
 use Rattle.vk_types.specs.declared.types.Ty.{Ty}
 use Rattle.vk_types.specs.declared.types.Ty.TheVariants.{I32}
 use Rattle.vk_types.specs.declared.types.Stop.{Stop}
@@ -9,16 +9,13 @@ use Rattle.vk_kinds.specs.declared.heads.CType.{CType}
 use Rattle.vk_kinds.specs.declared.heads.CType.TheVariants.{Int, Ptr}
 use Rattle.vk_numbers.specs.Operators.{is_on}
 use Rattle.vk_meaning.specs.World.{World}
-use Rattle.vk_meaning.specs.Data.{Datum, number, number_in, Value, got, halts, Action, given, with_value, then_number}
-use Rattle.vk_meaning.specs.Expressions.{Context, Variables, answered, both, chosen, converted, integers_value, truth_of}
-use Rattle.vk_object.specs.Lane.{is_live}
-use Rattle.vk_lane.specs.Places.{Share}
-use Rattle.vk_lane.specs.Writes.{Masks}
-use Rattle.vk_lane.specs.Entries.{LaneCall, Mode, place_of, is_usable}
-use Rattle.vk_construct.specs.Computes.{Table, IsTable, Computes}
-use Rattle.vk_construct.specs.Adds.{Adds, AddsNumber, AddsValue, HasType, HasWritten, IsTableOf, Written}
-use Rattle.vk_construct.specs.Applies.{number_at, one, two}
-use Rattle.vk_construct.proofs.Adding.{adds_nil, adds_then, adds_weaken, has_written_less, table_kept, table_more, table_there, type_there}
+use Rattle.vk_meaning.specs.Data.{number, number_in, Value, got, halts, Action, given, with_value, then_number}
+use Rattle.vk_meaning.specs.Expressions.{Context, Variables, answered, both, chosen, converted, truth_of}
+use Rattle.vk_lane.specs.Entries.{place_of}
+use Rattle.vk_construct.specs.Computes.{Table, Computes}
+use Rattle.vk_construct.specs.Adds.{Adds, AddsNumber, AddsValue, HasType, HasWritten, IsTableOf, Splits, Written}
+use Rattle.vk_construct.specs.Applies.{one, two}
+use Rattle.vk_construct.proofs.Adding.{adds_nil, adds_then, adds_weaken, has_written_less, table_more, table_there, type_there}
 use Rattle.vk_construct.proofs.Applying.{computes_answered, computes_one, computes_two}
 use Rattle.vk_construct.proofs.Choices.{chooses}
 use Rattle.vk_construct.proofs.Operands.{computes_same}
@@ -65,24 +62,23 @@ pub emits_two : (a b c e : Written) (tb : Table) (left right : Expression) (g : 
 emits_two a b c e tb left right g s s' t r r' d m k k1 k2 f n1 n2 n3 it lm lk lk2 lr p q w =
     adds_weaken a e _ _ (n1 + n2 + n3) (n1 + n2 + n3) 0 (adds_then a c e _ _ (n1 + n2) n3 0 (adds_then a b c _ _ n1 n2 0 p q) w) (omega arith)
     (λ l hw j h h' s1 s2 x.
-        let there : HasWritten l a = has_written_less a b _ n1 0 l p (has_written_less b c _ n2 0 l q (has_written_less c e _ n3 0 l w hw)) in
-        computes_two (place_of l) tb _ _ g s s' t r r' d m k k1 k2 f j h (x.1).0 x.0 h' (table_there l a tb k there it) (table_there l a tb k1 there (table_more a tb k k1 lk it)) lm lk lk2 lr (x.1).1 (x.1).2 x.2)
+    let there : HasWritten l a = has_written_less a b _ n1 0 l p (has_written_less b c _ n2 0 l q (has_written_less c e _ n3 0 l w hw)) in
+    computes_two (place_of l) tb _ _ g s s' t r r' d m k k1 k2 f j h (x.1).0 x.0 h' (table_there l a tb k there it) (table_there l a tb k1 there (table_more a tb k k1 lk it)) lm lk lk2 lr (x.1).1 (x.1).2 x.2)
 
 -- ---- choices
 
 -- one expression where a condition holds, else another, both into register rd
-pub emits_chosen : (c0 c1 c2 c3 c4 c5 : Written) (tb : Table) (e a b : Expression) (t : Ty) (u : CType) (r rd m k f n1 n2 n3 : ℕ) → IsTableOf c0 tb k → m < f → HasType c1 r t →
-    AddsValue c0 c1 tb e (Int t) r m k f n1 → Adds c1 c2 (λ q. Masks f (λ h. is_live m h.lane && not (h.lane.reg r == 0))) 1 0 → Adds c2 c3 (λ q. Masks (f + 1) (λ h. h.lane.on m && not (h.lane.on f))) 1 0 →
-    AddsValue c3 c4 tb a u rd f k (f + 2) n2 → AddsValue c4 c5 tb b u rd (f + 1) k (f + 2) n3 →
+pub emits_chosen : (c0 c1 c3 c4 c5 : Written) (tb : Table) (e a b : Expression) (t : Ty) (u : CType) (r rd m k f n1 n2 n3 : ℕ) → IsTableOf c0 tb k → m < f → HasType c1 r t →
+    AddsValue c0 c1 tb e (Int t) r m k f n1 → Adds c1 c3 (Splits m f r) 2 0 → AddsValue c3 c4 tb a u rd f k (f + 2) n2 → AddsValue c4 c5 tb b u rd (f + 1) k (f + 2) n3 →
     AddsValue c0 c5 tb (λ x vs. then_number (e x vs) (λ z. cond (is_on z) (a x vs) (b x vs))) u rd m k f (n1 + n2 + n3 + 2)
-emits_chosen c0 c1 c2 c3 c4 c5 tb e a b t u r rd m k f n1 n2 n3 it lm tr p1 p2 p3 p4 p5 =
-    adds_weaken c0 c5 _ _ (n1 + 1 + 1 + n2 + n3) (n1 + n2 + n3 + 2) 0
-    (adds_then c0 c4 c5 _ _ (n1 + 1 + 1 + n2) n3 0 (adds_then c0 c3 c4 _ _ (n1 + 1 + 1) n2 0 (adds_then c0 c2 c3 _ _ (n1 + 1) 1 0 (adds_then c0 c1 c2 _ _ n1 1 0 p1 p2) p3) p4) p5) (omega arith)
+emits_chosen c0 c1 c3 c4 c5 tb e a b t u r rd m k f n1 n2 n3 it lm tr p1 p2 p4 p5 =
+    adds_weaken c0 c5 _ _ (n1 + 2 + n2 + n3) (n1 + n2 + n3 + 2) 0
+    (adds_then c0 c4 c5 _ _ (n1 + 2 + n2) n3 0 (adds_then c0 c3 c4 _ _ (n1 + 2) n2 0 (adds_then c0 c1 c3 _ _ n1 2 0 p1 p2) p4) p5) (omega arith)
     (λ l hw j h h' s1 s2 x.
-        let y4 = x.1 in let y3 = y4.1 in let y2 = y3.1 in
-        let there : HasWritten l c1 = has_written_less c1 c2 _ 1 0 l p2 (has_written_less c2 c3 _ 1 0 l p3 (has_written_less c3 c4 _ n2 0 l p4 (has_written_less c4 c5 _ n3 0 l p5 hw))) in
-        chooses (place_of l) tb (e l.context) (a l.context) (b l.context) t u r rd m k f j h y2.0 y3.0 y4.0 x.0 h' (table_there l c0 tb k (has_written_less c0 c1 _ n1 0 l p1 there) it) lm (type_there l c1 r (Int t) there tr) y2.3
-            y2.1 y2.2 y3.2 y4.2 x.2)
+    let y4 = x.1 in let y3 = y4.1 in let split = y3.2 in
+    let there : HasWritten l c1 = has_written_less c1 c3 _ 2 0 l p2 (has_written_less c3 c4 _ n2 0 l p4 (has_written_less c4 c5 _ n3 0 l p5 hw)) in
+    chooses (place_of l) tb (e l.context) (a l.context) (b l.context) t u r rd m k f j h y3.0 split.0 y4.0 x.0 h' (table_there l c0 tb k (has_written_less c0 c1 _ n1 0 l p1 there) it) lm (type_there l c1 r (Int t) there tr) y3.3
+    y3.1 split.1 split.2 y4.2 x.2)
 
 -- the number is converted behind the choice, as well as in each of its cases
 converted_chosen : (t : Ty) (e a b : Action) (w : World) → then_number e (λ z. cond (is_on z) (converted t a) (converted t b)) w ≡ converted t (chosen e a b) w
@@ -91,18 +87,19 @@ converted_chosen t e a b w = first (e w)
     second : (p : Bool) (v : World) → cond p (converted t a) (converted t b) v ≡ with_value (cond p a b v) (λ d. given (number (wrap_number t (number_in d))))
     second true v = refl
     second false v = refl
+
     first : (v : Value) → with_value v (λ d. cond (is_on (number_in d)) (converted t a) (converted t b)) ≡ with_value (with_value v (λ d. cond (is_on (number_in d)) a b)) (λ d. given (number (wrap_number t (number_in d))))
     first (got d u) = second (is_on (number_in d)) u
     first (halts x u) = refl
 
 -- `e ? a : b`, the cases converted to one type
-pub emits_choice : (c0 c1 c2 c3 c4 c5 : Written) (tb : Table) (e a b : Expression) (t u : Ty) (r rd m k f n1 n2 n3 : ℕ) → IsTableOf c0 tb k → m < f → HasType c1 r t →
-    AddsValue c0 c1 tb e (Int t) r m k f n1 → Adds c1 c2 (λ q. Masks f (λ h. is_live m h.lane && not (h.lane.reg r == 0))) 1 0 → Adds c2 c3 (λ q. Masks (f + 1) (λ h. h.lane.on m && not (h.lane.on f))) 1 0 →
+pub emits_choice : (c0 c1 c3 c4 c5 : Written) (tb : Table) (e a b : Expression) (t u : Ty) (r rd m k f n1 n2 n3 : ℕ) → IsTableOf c0 tb k → m < f → HasType c1 r t →
+    AddsValue c0 c1 tb e (Int t) r m k f n1 → Adds c1 c3 (Splits m f r) 2 0 →
     AddsValue c3 c4 tb (λ x vs. converted u (a x vs)) (Int u) rd f k (f + 2) n2 → AddsValue c4 c5 tb (λ x vs. converted u (b x vs)) (Int u) rd (f + 1) k (f + 2) n3 →
     AddsValue c0 c5 tb (λ x vs. converted u (chosen (e x vs) (a x vs) (b x vs))) (Int u) rd m k f (n1 + n2 + n3 + 2)
-emits_choice c0 c1 c2 c3 c4 c5 tb e a b t u r rd m k f n1 n2 n3 it lm tr p1 p2 p3 p4 p5 =
+emits_choice c0 c1 c3 c4 c5 tb e a b t u r rd m k f n1 n2 n3 it lm tr p1 p2 p4 p5 =
     emits_same c0 c5 tb _ _ (Int u) rd m k f (n1 + n2 + n3 + 2) (λ x vs w. converted_chosen u (e x vs) (a x vs) (b x vs) w)
-    (emits_chosen c0 c1 c2 c3 c4 c5 tb e (λ x vs. converted u (a x vs)) (λ x vs. converted u (b x vs)) t (Int u) r rd m k f n1 n2 n3 it lm tr p1 p2 p3 p4 p5)
+    (emits_chosen c0 c1 c3 c4 c5 tb e (λ x vs. converted u (a x vs)) (λ x vs. converted u (b x vs)) t (Int u) r rd m k f n1 n2 n3 it lm tr p1 p2 p4 p5)
 
 -- an operand of `&&` or `||`, as 0 or 1
 truth_cases : (p : Bool) → cond p (pos 1) (pos 0) ≡ truth p

@@ -1,12 +1,12 @@
 -- Pieces of good code.
-use Rattle.std.proofs.Common.{arith, rules, sym, ℤ, ◌≤ℤ◌, int_le, ◌≡◌, ℕ, zero, suc, ◌+◌, ◌-◌, ◌*◌, ◌<◌, ◌≤◌, ◌==◌, nat_lt, nat_le, Bool, true, false, cond, not, ◌&&◌, ◌||◌, List, [], ◌∷◌, ◌++◌, length, Option, Some, None, refl, subst, ap, ap₂, ◌∙◌, append_assoc, length-append}
+use Rattle.std.proofs.Common.{arith, rules, sym, ℤ, ◌≤ℤ◌, int_le, ◌≡◌, ℕ, zero, suc, ◌+◌, ◌-◌, ◌<◌, ◌≤◌, ◌==◌, nat_lt, nat_le, Bool, true, false, cond, ◌&&◌, List, [], ◌∷◌, ◌++◌, length, Option, Some, None, refl, subst, ap, ap₂, ◌∙◌, append_assoc, length-append}
 use Rattle.std.proofs.lemmas.Int.{ints}
 use Rattle.std.specs.Prelude.{slice_get}
 use Rattle.vk_types.specs.declared.types.Ty.{Ty}
 use Rattle.vk_types.specs.declared.types.Op1.{Op1}
 use Rattle.vk_types.specs.declared.types.Op2.{Op2}
 use Rattle.vk_types.specs.declared.types.Word.{Word}
-use Rattle.vk_types.specs.declared.types.Ty.TheVariants.{I8, I16, I32, I64, U8, U16, U32, U64}
+use Rattle.vk_types.specs.declared.types.Ty.TheVariants.{I32}
 use Rattle.vk_types.specs.Conversions.{common_type, greatest_of, least_of, promoted}
 use Rattle.vk_types.specs.Formats.{type_number}
 use Rattle.vk_types.specs.Numbers.{IsCanonical, IsInRange, number_of}
@@ -15,7 +15,7 @@ use Rattle.vk_kinds.specs.declared.heads.CType.TheVariants.{Int}
 use Rattle.vk_kinds.specs.Types.{ctype_number}
 use Rattle.vk_code.specs.declared.instruction.Instr.{Instr}
 use Rattle.vk_code.specs.declared.instruction.Operation.{Operation}
-use Rattle.vk_code.specs.declared.instruction.Operation.TheVariants.{Const, Copy, Convert, Binary, Compare, Unary, MaskOf, MaskAnd, MaskOr, MaskBut}
+use Rattle.vk_code.specs.declared.instruction.Operation.TheVariants.{Const, Convert, Binary, Compare, Unary, MaskOf}
 use Rattle.vk_code.specs.Instruction.{block_of, block_in, operation_of}
 use Rattle.vk_code.specs.Listing.{Routine, number_of_some, reg_type}
 use Rattle.vk_code.specs.Tests.{all_good, holds}
@@ -52,9 +52,11 @@ good_one e c i o is plain lm ty rest n k room ek le g =
   where
     here : is_good_instr e c i ≡ true
     here = both_good (nat_lt i.m c.masks) (holds (is_typed e c) (operation_of i)) (below i.m c.masks lm) (ap (holds (is_typed e c)) is ∙ ty)
+
     by : (b : Option ℕ) → b ≡ None → all_good (elim b as (λ _. List Bool) [
-        | None ↦ is_good_instr e c i ∷ instr_verdicts e c room rest zero n
-        | Some x ↦ (is_good_instr e c i && nat_le x n && nat_lt 0 room) ∷ (instr_verdicts e c (room - 1) rest zero x ++ instr_verdicts e c room rest x (n - x)) ]) ≡ true
+      | None ↦ is_good_instr e c i ∷ instr_verdicts e c room rest zero n
+      | Some x ↦ (is_good_instr e c i && nat_le x n && nat_lt 0 room) ∷ (instr_verdicts e c (room - 1) rest zero x ++ instr_verdicts e c room rest x (n - x))
+    ]) ≡ true
     by None h = both_good (is_good_instr e c i) (all_good (instr_verdicts e c room rest zero n)) here g
     by (Some x) h = cc
 

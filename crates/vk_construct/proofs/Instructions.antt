@@ -1,5 +1,5 @@
 -- Single instructions, as they are appended.
-use Rattle.std.proofs.Common.{arith, sym, ◌≡◌, ℕ, ◌+◌, ◌<◌, ◌≤◌, ◌==◌, Bool, true, false, not, ◌&&◌, ◌||◌, List, [], ◌∷◌, Option, Some, None, refl, subst, ap, ◌∙◌, ℤ, Result, Ok, Err}
+use Rattle.std.proofs.Common.{arith, sym, ◌≡◌, ℕ, ◌+◌, ◌<◌, ◌≤◌, ◌==◌, true, false, not, ◌&&◌, ◌||◌, List, [], ◌∷◌, Some, None, refl, subst, ℤ, Result, Ok}
 use Rattle.vk_types.specs.declared.types.Ty.{Ty}
 use Rattle.vk_types.specs.declared.types.Ty.TheVariants.{I32}
 use Rattle.vk_types.specs.declared.types.Op1.{Op1}
@@ -19,15 +19,15 @@ use Rattle.vk_code.specs.Instruction.{block_in, operation_of}
 use Rattle.vk_code.specs.Listing.{Routine}
 use Rattle.vk_code.specs.Valid.{Environment, are_masks, is_shift, is_typed}
 use Rattle.vk_object.specs.Lane.{is_live}
-use Rattle.vk_lane.specs.Places.{Share, IsSound, reg_type}
-use Rattle.vk_lane.specs.Pieces.{Change, Always, Does}
+use Rattle.vk_lane.specs.Places.{Share, IsSound}
+use Rattle.vk_lane.specs.Pieces.{Always, Does}
 use Rattle.vk_lane.specs.Writes.{Masks, Writes, word_result}
 use Rattle.vk_lane.specs.Entries.{LaneCall, place_of}
 use Rattle.vk_lane.proofs.Rules.{does_weaken}
 use Rattle.vk_lane.proofs.Writing.{IsWrite, does_mask_and, does_mask_but, does_mask_of, does_mask_or, does_write, write_binary, write_compare, write_const, write_convert, write_unary}
-use Rattle.vk_construct.specs.Adds.{Adds, AddsNumber, Finishes, HasType, HasWritten, Puts, Written}
+use Rattle.vk_construct.specs.Adds.{Adds, AddsNumber, Finishes, HasType, HasWritten, LeavesOut, Puts, Splits, TestsOn, Written}
 use Rattle.vk_construct.specs.Applies.{Applies, IsResult, number_at, one, two}
-use Rattle.vk_construct.proofs.Adding.{adds_nil, adds_put, adds_weaken, free_register, type_there}
+use Rattle.vk_construct.proofs.Adding.{adds_nil, adds_put, adds_then, adds_weaken, free_register, type_there}
 use Rattle.vk_construct.proofs.Applying.{word_is_result, writes_apply}
 use Rattle.vk_construct.proofs.Good.{IsPromoted, good_masks, typed_binary, typed_compare, typed_const, typed_convert, typed_mask_of, typed_unary}
 use Rattle.vk_construct.proofs.Values.{idles_same, keeps_same}
@@ -99,7 +99,7 @@ pub record IsFreeMask (w : Written) (d : ℕ) : Type 0 where
   pub there : d < w.masks
 
 pub adds_mask_of : (a b : Written) (i : Instr) (t : Ty) (d r m : ℕ) → Puts a b i [] → i.m ≡ m → m < b.masks → operation_of i ≡ Some (MaskOf d r) → IsFreeMask b d → HasType b r t →
-    Adds a b (λ q. Masks d (λ h. is_live m h.lane && not (h.lane.reg r == 0))) 1 0
+    Adds a b (TestsOn m d r) 1 0
 adds_mask_of a b i t d r m p em lm is free tr = adds_put a b i [] (MaskOf d r) _ p is refl (subst (λ n. n < b.masks) (sym em) lm)
     (λ e c fin. let q = fin.masks in let l = free.there in typed_mask_of e c b t d r fin free.some (omega (arith, q, l)) tr)
     (λ q hw. subst (λ n. Does (place_of q) Always (i ∷ []) (Masks d (λ h. is_live n h.lane && not (h.lane.reg r == 0)))) em (does_mask_of (place_of q) d r i is))
@@ -118,5 +118,9 @@ module _ (a b : Written) (i : Instr) (d x y : ℕ) (p : Puts a b i []) (em : i.m
   pub adds_mask_or : operation_of i ≡ Some (MaskOr d x y) → Adds a b (λ q. Masks d (λ h. h.lane.on x || h.lane.on y)) 1 0
   adds_mask_or is = adds_put a b i [] (MaskOr d x y) _ p is refl first_mask (λ e c fin. good c fin) (λ q hw. does_mask_or (place_of q) d x y i is)
 
-  pub adds_mask_but : operation_of i ≡ Some (MaskBut d x y) → Adds a b (λ q. Masks d (λ h. h.lane.on x && not (h.lane.on y))) 1 0
+  pub adds_mask_but : operation_of i ≡ Some (MaskBut d x y) → Adds a b (LeavesOut d x y) 1 0
   adds_mask_but is = adds_put a b i [] (MaskBut d x y) _ p is refl first_mask (λ e c fin. good c fin) (λ q hw. does_mask_but (place_of q) d x y i is)
+
+-- the lanes of mask m, by a condition
+pub adds_split : (a b c : Written) (m f r : ℕ) → Adds a b (TestsOn m f r) 1 0 → Adds b c (LeavesOut (f + 1) m f) 1 0 → Adds a c (Splits m f r) 2 0
+adds_split a b c m f r p q = adds_weaken a c _ (Splits m f r) 2 2 0 (adds_then a b c _ _ 1 1 0 p q) (omega arith) (λ l hw j h h' s s' x. (x.0, x.1, x.2))

@@ -1,5 +1,5 @@
 -- The variables of a scope, and names that mean them.
-use Rattle.std.proofs.Common.{arith, sym, ◌≡◌, ◌≢◌, ℕ, zero, suc, ◌+◌, ◌<◌, ◌≤◌, Bool, true, false, cond, ◌&&◌, List, [], ◌∷◌, ◌++◌, map, length, get_or, Option, Some, None, is_some, refl, subst, ap, ◌∙◌, append_assoc, append-nil, true≢false}
+use Rattle.std.proofs.Common.{arith, sym, ◌≡◌, ℕ, zero, suc, ◌+◌, ◌<◌, Bool, true, false, cond, List, [], ◌∷◌, ◌++◌, map, length, get_or, Option, Some, None, is_some, refl, subst, ap, ◌∙◌, append_assoc, append-nil, true≢false}
 use Rattle.std.proofs.lemmas.List.{length-map}
 use Rattle.std.specs.Prelude.{slice_get, unwrap_or}
 use Rattle.std.specs.Option.{option_map, option_or}
@@ -10,9 +10,8 @@ use Rattle.vk_ast.specs.declared.names.NameId.{NameId}
 use Rattle.vk_ast.specs.declared.items.ParamDecl.{ParamDecl}
 use Rattle.vk_ast.specs.Tree.{name}
 use Rattle.vk_rules_book.specs.declared.contexts.Binding.{Binding}
-use Rattle.vk_rules_book.specs.Scopes.{Scope, Meaning, a_variable, inner_or, last_binding, meaning_of, same_name, types_of, with_param, with_params}
+use Rattle.vk_rules_book.specs.Scopes.{Scope, a_variable, inner_or, last_binding, meaning_of, same_name, types_of, with_param, with_params}
 use Rattle.vk_rules_book.specs.Typings.{name_typing, number_type}
-use Rattle.vk_meaning.specs.Types.{type_at}
 use Rattle.vk_meaning.specs.Points.{Variable, variable_among, variable_named}
 use Rattle.vk_construct.specs.Adds.{IsTableOf, Written}
 use Rattle.vk_construct.specs.Trees.{AreVariables, HasNumber, param_table, table_of, types_in}
@@ -84,6 +83,7 @@ variables_of register scope = record { there = λ id v e. there v (among 0 scope
   where
     there : (v : Variable) → Among 0 scope.inner v → v.number < length scope.inner
     there v a = let n : a.at ≡ v.number = omega (arith, a.number) in subst (λ i. i < length scope.inner) n a.below
+
     typed : (v : Variable) → Among 0 scope.inner v → get_or (types_in scope) v.number Void ≡ v.ctype
     typed v a = let n : a.at ≡ v.number = omega (arith, a.number) in ap (λ i. get_or (types_in scope) i Void) (sym n) ∙ a.ctype
 
@@ -97,9 +97,10 @@ got_from (t ∷ ts) (suc v) l = got_from ts v (omega (arith, l))
 -- where the registers are the parameters, each has its own
 pub params_table : (w : Written) (scope : Scope) → w.regs ≡ types_in scope → IsTableOf w (param_table scope) (length w.regs)
 params_table w scope e = record {
-    typed = λ v l. subst (λ r. slice_get r v ≡ Some (get_or (types_in scope) v Void)) (sym e) (got_from (types_in scope) v (subst (λ n. v < n) (sym (length-map scope.inner type_bound)) l));
-    below = λ v l. subst (λ n. v < n) (sym (ap length e ∙ length-map scope.inner type_bound)) l;
-    apart = λ u v l k ne. ne }
+  typed = λ v l. subst (λ r. slice_get r v ≡ Some (get_or (types_in scope) v Void)) (sym e) (got_from (types_in scope) v (subst (λ n. v < n) (sym (length-map scope.inner type_bound)) l));
+  below = λ v l. subst (λ n. v < n) (sym (ap length e ∙ length-map scope.inner type_bound)) l;
+  apart = λ u v l k ne. ne;
+}
 
 -- every parameter has a name
 abbrev pub AreNamed : List ParamDecl → Type 0
@@ -114,6 +115,7 @@ types_of_params scope (p ∷ ps) h = types_of_params (with_param scope p.name p)
     more : (bs : List Binding) (b : Binding) → map type_bound (bs ++ b ∷ []) ≡ map type_bound bs ++ b.ctype ∷ []
     more [] b = refl
     more (x ∷ bs) b = ap (λ l. x.ctype ∷ l) (more bs b)
+
     one_more : (o : Option NameId) → is_some o ≡ true → types_in (with_param scope o p) ≡ types_in scope ++ p.ctype ∷ []
     one_more None e = absurd (true≢false (sym e))
     one_more (Some id) e = more scope.inner _

@@ -1,34 +1,26 @@
 -- The operators of C, pointers and cells, by their instructions.
-use Rattle.std.proofs.Common.{arith, rules, sym, ◌≡◌, ◌≢◌, ℕ, zero, suc, ◌+◌, ◌-◌, ◌*◌, ◌/◌, ◌%◌, ◌^◌, ◌<◌, ◌≤◌, ◌==◌, Bool, true, false, cond, not, ◌||◌, ◌&&◌, List, map, Option, Some, None, refl, subst, ap, ap₂, ◌∙◌, ◌⊎◌, inl, inr, ℤ, pos, negsuc, ◌+ℤ◌, ◌≤ℤ◌, Result, Ok, Err, true≢false, w32, FitsSigned}
-use Rattle.std.specs.Prelude.{int_le, unsigned_abs, neg_ℤ}
-use Rattle.std.specs.Int.{cast_signed, int_rem_euclid, int_wrap}
-use Rattle.std.proofs.lemmas.Int.{int_wrap_fits, ints}
-use Rattle.std.proofs.Math.Nat.{mod-lt}
+use Rattle.std.proofs.Common.{sym, ◌≡◌, ℕ, ◌/◌, ◌^◌, ◌<◌, Bool, true, false, cond, List, Option, Some, None, refl, subst, ap, ap₂, ◌∙◌, ℤ, ◌+ℤ◌, Result, Ok, Err}
 use Rattle.vk_types.specs.declared.types.Stop.{Stop}
-use Rattle.vk_types.specs.declared.types.Stop.TheVariants.{Bounds}
 use Rattle.vk_types.specs.declared.types.Ty.{Ty}
-use Rattle.vk_types.specs.declared.types.Ty.TheVariants.{I32}
 use Rattle.vk_types.specs.declared.types.Op1.{Op1}
 use Rattle.vk_types.specs.declared.types.Op2.{Op2}
 use Rattle.vk_types.specs.Numbers.{number_of, word_of, wrap_number, IsInRange}
 use Rattle.vk_types.specs.Operators.{op1_number, op2_number, result_type}
 use Rattle.vk_kinds.specs.declared.heads.CType.{CType}
-use Rattle.vk_kinds.specs.declared.heads.CType.TheVariants.{Void, Int, Ptr}
+use Rattle.vk_kinds.specs.declared.heads.CType.TheVariants.{Int, Ptr}
 use Rattle.vk_numbers.proofs.Numbers.{wrap_in_range, number_of-word, op1_in_range, op2_in_range}
 use Rattle.vk_numbers.specs.Operators.{result_in, shift_result}
-use Rattle.vk_meaning.specs.World.{Array, array_at, World, in_memory, with_cell}
-use Rattle.vk_meaning.specs.Data.{Datum, number, pointer, nothing, number_in, array_of, Value, got, halts, with_value, Action, and_then, then_number, fits_offset, pointer_at, moved, named_element, at_element, loaded, stored, given, as_type}
+use Rattle.vk_meaning.specs.World.{Array, array_at, World}
+use Rattle.vk_meaning.specs.Data.{Datum, number, pointer, number_in, array_of, Value, got, halts, with_value, Action, and_then, then_number, fits_offset, pointer_at, moved, named_element, at_element, loaded, given}
 use Rattle.vk_meaning.specs.Expressions.{answered, both, converted, Variables}
-use Rattle.vk_meaning.specs.Statements.{State, at_world, Evaluation}
-use Rattle.vk_meaning.specs.Lanes.{datum_of, IsWord}
-use Rattle.vk_object.specs.Memory.{Cell, cell_of, array_of as word_array, offset_of, at_offset, moved as word_moved}
-use Rattle.vk_object.specs.Lane.{LaneState, is_live, with_stop}
-use Rattle.vk_lane.specs.Places.{Share, Place, IsPlace, IsSound, IsFine, IsVisible, reg_type, extent_of}
-use Rattle.vk_lane.specs.Writes.{Writes, word_result, pointer_result}
-use Rattle.vk_lane.specs.Cells.{cell_as, load_result, stored_share, Stores, cell_at, MayLoad, MayStore}
-use Rattle.vk_construct.specs.Computes.{Table, IsTable, Holds, Keeps, Has, Gives, Computes, Answers, Idles}
-use Rattle.vk_lane.specs.Pieces.{Stays}
-use Rattle.vk_construct.proofs.Values.{keeps_same, keeps_then, keeps_less, holds_keeps, live_is, off_is, gone_is, idles_of, idles_then, computes_then, computes_has}
+use Rattle.vk_meaning.specs.Statements.{Evaluation}
+use Rattle.vk_meaning.specs.Lanes.{datum_of}
+use Rattle.vk_object.specs.Memory.{Cell, cell_of, offset_of, at_offset, moved as word_moved}
+use Rattle.vk_lane.specs.Places.{Share, Place, IsPlace, IsFine, IsVisible}
+use Rattle.vk_lane.specs.Writes.{word_result, pointer_result}
+use Rattle.vk_lane.specs.Cells.{cell_as, load_result, cell_at, MayLoad}
+use Rattle.vk_construct.specs.Computes.{Table, Has, Gives, Computes, Answers}
+use Rattle.vk_construct.proofs.Values.{computes_has}
 use Rattle.vk_lane.proofs.Pointers.{moved_word, same_cell}
 
 -- ---- numbers
@@ -68,6 +60,7 @@ convert_both t op left right w = first (left w)
         ≡ with_value v (λ d. answered (result_in op t a (number_in d)))
     second a (got d u) = refl
     second a (halts z u) = refl
+
     first : (v : Value) → with_value (with_value v (λ d. given (number (wrap_number t (number_in d))))) (λ a. and_then (converted t right) (λ b. answered (op2_number op t (number_in a) (number_in b))))
         ≡ with_value v (λ d. then_number right (λ z. answered (result_in op t (number_in d) z)))
     first (got d u) = second (number_in d) (right u)
@@ -106,6 +99,7 @@ answers_moved x j to u wr p n a b w may hp hn = subst (λ v. Answers x j (Ptr to
   where
     o : ℤ
     o = offset_of a +ℤ number_of u b
+
     go : (f : Bool) → fits_offset o ≡ f → Answers x j (Ptr to wr) (pointer_at f (a / 2 ^ 32) o w) w (pointer_result (cond f (Some (at_offset a o)) None))
     go true f = (pointer (a / 2 ^ 32) o, refl, record { is = sym (moved_word to wr a o f); fine = may (a / 2 ^ 32) (offset_of a) o (subst (IsFine x j (Ptr to wr)) hp.is hp.fine) })
     go false f = refl
@@ -122,6 +116,7 @@ answers_loaded x j t to wr p a h w ip ew hp = subst (λ r. Answers x j (Int t) (
   where
     q : Datum
     q = datum_of (Ptr to wr) (h.lane.reg a)
+
     go : (e : Option ℕ) → Answers x j (Int t) (at_element e (λ index v. got (number (wrap_number t (number_of (array_at x.context.arrays (array_of q)).ty (v.memory (array_of q) index)))) v) w) w
         (load_result w.memory t (cell_as x.context.arrays q e))
     go None = refl

@@ -1,38 +1,31 @@
 -- Code of each node of an expression, from the code of its parts.
-use Rattle.std.proofs.Common.{arith, sym, ◌≡◌, ℕ, ◌+◌, ◌*◌, ◌<◌, ◌≤◌, ◌==◌, Bool, true, false, cond, not, ◌&&◌, List, [], ◌∷◌, length, Option, Some, None, refl, subst, ap, ap₂, ◌∙◌, ℤ, pos, Result, Ok, Err, true≢false}
-use Rattle.std.specs.Option.{option_map, option_or}
+use Rattle.std.proofs.Common.{arith, sym, ◌≡◌, ℕ, ◌+◌, ◌*◌, ◌<◌, Bool, true, false, cond, not, ◌&&◌, length, Some, refl, subst, ap, ap₂, ◌∙◌, pos, Ok, true≢false}
 use Rattle.vk_types.specs.declared.types.Ty.{Ty}
-use Rattle.vk_types.specs.declared.types.Ty.TheVariants.{I32}
-use Rattle.vk_types.specs.declared.types.Stop.{Stop}
 use Rattle.vk_types.specs.Numbers.{wrap_number}
 use Rattle.vk_types.specs.Conversions.{common_type}
-use Rattle.vk_kinds.specs.declared.heads.CType.{CType}
-use Rattle.vk_kinds.specs.declared.heads.CType.TheVariants.{Void, Int, Ptr}
+use Rattle.vk_kinds.specs.declared.heads.CType.TheVariants.{Int}
 use Rattle.vk_ast.specs.declared.names.NameId.{NameId}
 use Rattle.vk_ast.specs.declared.expressions.UnOp.{UnOp}
 use Rattle.vk_ast.specs.declared.expressions.BinOp.{BinOp}
 use Rattle.vk_ast.specs.declared.expressions.BinOp.TheVariants.{Add, Sub, Mul, Div, Rem, And, Or, Xor, Shl, Shr, Eq, Ne, Lt, Le, Gt, Ge, LogAnd, LogOr}
 use Rattle.vk_ast.specs.Tree.{Tree, int, name, unary, binary, choice, cast, nodes_of}
 use Rattle.vk_numbers.specs.Laws.{is_logical}
-use Rattle.vk_numbers.specs.Operators.{binary_number, is_on, unary_number}
+use Rattle.vk_numbers.specs.Operators.{binary_number, unary_number}
 use Rattle.vk_numbers.specs.Types.{binary_type, unary_type}
-use Rattle.vk_rules_book.specs.declared.contexts.Binding.{Binding}
 use Rattle.vk_rules_book.specs.declared.typings.Typing.{Typing}
 use Rattle.vk_rules_book.specs.declared.typings.Typing.TheVariants.{Number, Variable as AVariable, Cell, Pointer, Nothing, Function, Untyped}
-use Rattle.vk_rules_book.specs.Scopes.{Scope, Meaning, a_variable, inner_or, last_binding, meaning_of, same_name}
-use Rattle.vk_rules_book.specs.Typings.{binary_typing, choice_typing, is_pointer, is_sum, is_plus, moves_left, moves_right, name_typing, number_type, then_number as typed_number, typing_of, with_number}
+use Rattle.vk_rules_book.specs.Scopes.{Scope}
+use Rattle.vk_rules_book.specs.Typings.{choice_typing, is_pointer, is_sum, is_plus, moves_left, moves_right, number_type, then_number as typed_number, typing_of, with_number}
 use Rattle.vk_meaning.specs.World.{World}
-use Rattle.vk_meaning.specs.Data.{Action, and_then, given, number, then_number}
-use Rattle.vk_meaning.specs.Points.{Variable, variable_among, variable_named}
-use Rattle.vk_meaning.specs.Expressions.{Context, Variables, answered, both, chosen, converted, integer_type, integers_value, moved_by, name_value, operator_value, truth_of, value_of}
-use Rattle.vk_object.specs.Lane.{is_live}
-use Rattle.vk_lane.specs.Writes.{Masks}
+use Rattle.vk_meaning.specs.Data.{Action, and_then, then_number}
+use Rattle.vk_meaning.specs.Points.{Variable, variable_named}
+use Rattle.vk_meaning.specs.Expressions.{Context, Variables, answered, both, integer_type, integers_value, moved_by, name_value, value_of}
 use Rattle.vk_construct.specs.Computes.{Table}
-use Rattle.vk_construct.specs.Adds.{Adds, AddsNumber, AddsValue, HasType, IsTableOf, Written}
+use Rattle.vk_construct.specs.Adds.{AddsNumber, AddsValue, IsTableOf, Written}
 use Rattle.vk_construct.specs.Applies.{one, two}
 use Rattle.vk_construct.specs.Trees.{AddsTree, AreVariables, HasNumber}
-use Rattle.vk_construct.proofs.Adding.{adds_weaken, no_fewer, table_kept, table_more}
-use Rattle.vk_construct.proofs.Evaluating.{emits_choice, emits_chosen, emits_less, emits_number, emits_one, emits_same, emits_truth, emits_two, emits_variable}
+use Rattle.vk_construct.proofs.Adding.{no_fewer}
+use Rattle.vk_construct.proofs.Evaluating.{emits_less, emits_number, emits_one, emits_same, emits_two, emits_variable}
 
 -- ---- types
 
@@ -88,6 +81,7 @@ number_binary scope l k op s t left right hl hr =
   where
     x : Typing
     x = typing_of scope left
+
     y : Typing
     y = typing_of scope right
 
@@ -100,6 +94,7 @@ number_choice scope l k c s t test first second hc hf hs =
   where
     x : Typing
     x = typing_of scope first
+
     y : Typing
     y = typing_of scope second
 
@@ -138,10 +133,13 @@ numbers_value c scope vs l p op s t left right w hl hr = sym
   where
     x : Action
     x = value_of c scope vs left
+
     y : Action
     y = value_of c scope vs right
+
     u : Typing
     u = typing_of scope left
+
     v : Typing
     v = typing_of scope right
 
@@ -172,5 +170,5 @@ pub tree_binary : (a b c e : Written) (scope : Scope) (tb : Table) (l p : ℕ) (
 tree_binary a b c e scope tb l p op s t left right r r' d m f it lm plain hl hr lr x y z =
     emits_less a e tb _ (Int (binary_type op s t)) d m (length a.regs) f (length a.regs) f (8 * nodes_of left + 8 * nodes_of right + 3) (8 * (1 + nodes_of left + nodes_of right)) (omega arith) (omega arith) (omega arith)
     (emits_same a e tb _ _ (Int (binary_type op s t)) d m (length a.regs) f (8 * nodes_of left + 8 * nodes_of right + 3)
-        (λ k vs w. evaluates_both op s t (value_of k scope vs left) (value_of k scope vs right) w plain ∙ numbers_value k scope vs l p op s t left right w hl hr)
+    (λ k vs w. evaluates_both op s t (value_of k scope vs left) (value_of k scope vs right) w plain ∙ numbers_value k scope vs l p op s t left right w hl hr)
     (emits_two a b c e tb _ _ (binary_number op s t) s t (binary_type op s t) r r' d m (length a.regs) (length b.regs) (length c.regs) f (8 * nodes_of left) (8 * nodes_of right) 3 it lm (no_fewer a b _ _ 0 x) (no_fewer b c _ _ 0 y) lr x y z))

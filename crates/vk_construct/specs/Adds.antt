@@ -1,5 +1,5 @@
 -- Code that an emitter appends: that it is good, and what it does wherever the finished code runs.
-use Rattle.std.specs.Prelude.{◌≡◌, ◌≢◌, ℕ, zero, ◌+◌, ◌<◌, ◌≤◌, true, List, [], ◌∷◌, ◌++◌, length, Some, slice_get, ℤ, Result}
+use Rattle.std.specs.Prelude.{◌≡◌, ◌≢◌, ℕ, zero, ◌+◌, ◌<◌, ◌≤◌, ◌==◌, ◌&&◌, not, true, List, [], ◌∷◌, ◌++◌, length, Some, slice_get, ℤ, Result}
 use Rattle.vk_types.specs.declared.types.Stop.{Stop}
 use Rattle.vk_types.specs.declared.types.Ty.{Ty}
 use Rattle.vk_kinds.specs.declared.heads.CType.{CType}
@@ -10,8 +10,10 @@ use Rattle.vk_code.specs.declared.instruction.Instr.{Instr}
 use Rattle.vk_code.specs.Listing.{CallSite, Routine}
 use Rattle.vk_code.specs.Tests.{all_good}
 use Rattle.vk_code.specs.Valid.{Environment, instr_verdicts}
+use Rattle.vk_object.specs.Lane.{is_live}
 use Rattle.vk_lane.specs.Places.{Share, IsPlace}
 use Rattle.vk_lane.specs.Pieces.{Change, Always, Does}
+use Rattle.vk_lane.specs.Writes.{Masks}
 use Rattle.vk_lane.specs.Entries.{LaneCall, place_of}
 use Rattle.vk_construct.specs.Computes.{Table, Computes}
 use Rattle.vk_construct.specs.Applies.{Applies}
@@ -86,3 +88,17 @@ AddsNumber old new result t d m k f size = Adds old new (λ q. Applies result t 
 -- the same for the value of an expression
 abbrev pub AddsValue : (old new : Written) → Table → (Context → Evaluation) → CType → (r m k f size : ℕ) → Type 0
 AddsValue old new tb e t r m k f size = Adds old new (λ q. Computes (place_of q) tb (e q.context) t r m k f) size 0
+
+-- ---- masks
+
+-- mask f has the lanes of mask m where register r is not 0
+abbrev pub TestsOn : (m f r : ℕ) → LaneCall → Change
+TestsOn m f r q = Masks f (λ h. is_live m h.lane && not (h.lane.reg r == 0))
+
+-- mask d has the lanes of mask a that are not in mask b
+abbrev pub LeavesOut : (d a b : ℕ) → LaneCall → Change
+LeavesOut d a b q = Masks d (λ h. h.lane.on a && not (h.lane.on b))
+
+-- mask f has the lanes of mask m where register r is not 0, and mask f + 1 the others of m
+abbrev pub Splits : (m f r : ℕ) → LaneCall → Change
+Splits m f r q j h h' = (mid : Share) × TestsOn m f r q j h mid × LeavesOut (f + 1) m f q j mid h'

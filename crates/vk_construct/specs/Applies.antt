@@ -4,7 +4,7 @@ use Rattle.vk_types.specs.declared.types.Ty.{Ty}
 use Rattle.vk_types.specs.declared.types.Stop.{Stop}
 use Rattle.vk_types.specs.Numbers.{number_of}
 use Rattle.vk_lane.specs.Places.{Share}
-use Rattle.vk_lane.specs.Pieces.{Change, Stays}
+use Rattle.vk_lane.specs.Pieces.{Stays}
 use Rattle.vk_construct.specs.Computes.{Idles, Keeps}
 
 -- the word has the number, as one of the type, or the stops are the same

@@ -1,2 +1,4 @@
-//! Constructs of the language, as code that is appended: what each does in every lane.
+//! Constructs of the language, as code that is appended: what each does in every lane of every run.
 #![tactic(auto)]
+
+pub mod laws;
