@@ -8,10 +8,12 @@ use Rattle.vk_object.specs.Tables.{EntryLists}
 use Rattle.vk_object.specs.Memory.{Memory}
 use Rattle.vk_object.specs.Lane.{LaneState, View, is_live}
 use Rattle.vk_object.specs.Machine.{Called, Given, Ran, Site, Target, World, any_live, arg_reg, call_all, call_one, calls_in_turn, calls_target, enters, first_lane, first_live, in_lane, lane_args, lowest_stop, put, runs_entry, sweep, takes, target_of, word_in}
-use Rattle.vk_frames.proofs.Writes.{put_same, same_lanes}
+use Rattle.vk_frames.proofs.Writes.{put_self}
 use Rattle.vk_access.specs.Outer.{Breaks, Goes, Leads, Outer, Runs, world}
-use Rattle.vk_access.proofs.Leading.{breaks_as, breaks_more, leads_as, leads_map, leads_then}
+use Rattle.vk_access.proofs.Leading.{breaks_after, breaks_as, leads_as, leads_map, leads_then}
 use Rattle.vk_runs.specs.Logs.{Grows}
+use Rattle.vk_steps.specs.declared.place.Place.{Place}
+use Rattle.vk_perform.proofs.Growing.{GrowsLogs, turn_grows}
 
 -- ---- for all lanes
 
@@ -89,15 +91,6 @@ call_one_breaks m slot n t j l k a b fault live first p =
     breaks_as a b fault (λ mem. (runs_entry n t (world k mem)).mem) (λ mem. (in_lane (call_one m slot (enters n t)) j (world l mem)).mem)
     (λ mem. ap (λ (w : World). w.mem) (called_one m slot n t j l k mem live first)) p
 
-put_self : (f : ℕ → LaneState) (j : ℕ) → put f j (f j) ≡ f
-put_self f j = same_lanes (put f j (f j)) f at
-  where
-    at : (i : ℕ) → put f j (f j) i ≡ f i
-    at i = elim (cases_eq i j) as (λ _. put f j (f j) i ≡ f i) [
-      | inl s ↦ ap (λ b. cond b (f j) (f i)) (eq-eqb i j s) ∙ ap f (sym s)
-      | inr d ↦ ap (λ b. cond b (f j) (f i)) (ne_eqb i j d)
-    ]
-
 pub call_one_none : (m : ℕ) (slot : CallSite) (called : Called) (j : ℕ) (w : World) → is_live m (w.lane j) ≡ false → in_lane (call_one m slot called) j w ≡ w
 call_one_none m slot called j w h = ap by h ∙ ap (λ f. record { lane = f; mem = w.mem }) (put_self w.lane j)
   where
@@ -145,6 +138,14 @@ turn_goes args lanes c (suc k) n t f k1 a b d F low p same e first before now =
 
     less : (o : Option Stop) (mem : Memory) → after o mem ≡ elim o as (λ _. Ran) [ Some x ↦ record { stop = Some x; mem = mem } | None ↦ calls_in_turn (enters n t) args lanes k (c + 1) mem ]
     less o mem = ap (λ j. elim o as (λ _. Ran) [ Some x ↦ record { stop = Some x; mem = mem } | None ↦ calls_in_turn (enters n t) args lanes j (c + 1) mem ]) minus
+
+-- one that breaks
+pub turn_breaks : (p : Place) (args : ℕ → ℕ → ℕ → ℕ) (lanes c k n : ℕ) (t : Site) (f : ℕ → LaneState) (a b d : Outer) (fault : Outside) (F : Memory → Ran) →
+    GrowsLogs (enters n t) → 0 < k → f ≡ first_lane t.entry.lanes t.code.routine.params (args c) (λ i. nat_lt i lanes) →
+    Leads Ran a b F (λ mem. calls_in_turn (enters n t) args lanes k c mem) → Breaks b d fault (λ mem. (runs_entry n t (world f mem)).mem) → Breaks a d fault (λ mem. (F mem).mem)
+turn_breaks p args lanes c k n t f a b d fault F grows some first before now =
+    breaks_after Ran (λ r. r.mem) a b d fault F (λ mem. calls_in_turn (enters n t) args lanes k c mem) (λ mem. (runs_entry n t (world f mem)).mem) before now
+    (λ mem. subst (λ (g : ℕ → LaneState). Grows (runs_entry n t (world g mem)).mem (calls_in_turn (enters n t) args lanes k c mem).mem) (sym first) (turn_grows p (enters n t) args lanes grows k c mem some))
 
 pub no_stop : (called : Called) (args : ℕ → ℕ → ℕ → ℕ) (lanes k j c : ℕ) (low : Option Stop) (mem : Memory) → low ≡ None → k ≡ j →
     elim low as (λ _. Ran) [ Some x ↦ record { stop = Some x; mem = mem } | None ↦ calls_in_turn called args lanes k c mem ] ≡ calls_in_turn called args lanes j c mem
