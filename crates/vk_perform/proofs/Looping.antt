@@ -1,6 +1,8 @@
 -- Simd loops: the calls of the body, and the lane after them.
-use Rattle.std.proofs.Common.{◌≡◌, ℕ, ◌-◌, ◌*◌, ◌/◌, ◌%◌, ◌<◌, nat_lt, refl, ap, sym, ◌∙◌, subst, cond, true, false, Bool, Option, Some, None, Result, Ok, Err}
-use Rattle.std.specs.Prelude.{min}
+use Rattle.std.proofs.Common.{◌≡◌, ℕ, ◌-◌, ◌*◌, ◌/◌, ◌%◌, ◌+◌, ◌<◌, ◌≤◌, arith, nat_lt, refl, ap, sym, ◌∙◌, subst, cond, true, false, Bool, Option, Some, None, Result, Ok, Err}
+use Rattle.std.specs.Prelude.{is_some, min}
+use Rattle.std.proofs.lemmas.Bool.{false≢true}
+use Rattle.std.proofs.Math.Nat.{div-mul-le_self, mod-eq-sub-div-mul}
 use Rattle.vk_types.specs.declared.types.Stop.{Stop}
 use Rattle.vk_types.specs.declared.types.Stop.TheVariants.{Turns}
 use Rattle.vk_io.specs.declared.outside.Outside.{Outside}
@@ -27,10 +29,6 @@ pub calls_as : (r : Result (Option Stop) Outside) (a b : Outer) (F F' : Memory �
 calls_as (Ok stop) a b F F' e p = leads_as Ran a b F (λ mem. record { stop = stop; mem = mem }) F' (λ mem. record { stop = stop; mem = mem }) e (λ mem. refl) p
 calls_as (Err fault) a b F F' e p = breaks_as a b fault (λ mem. (F mem).mem) (λ mem. (F' mem).mem) (λ mem. ap (λ (r : Ran). r.mem) (e mem)) p
 
--- the stop, told otherwise
-pub stop_as : (low stop : Option Stop) (a b : Outer) (F : Memory → Ran) → low ≡ stop → Leads Ran a b F (λ mem. record { stop = low; mem = mem }) → Leads Ran a b F (λ mem. record { stop = stop; mem = mem })
-stop_as low stop a b F e p = subst (λ (s : Option Stop). Leads Ran a b F (λ mem. record { stop = s; mem = mem })) e p
-
 -- ---- all calls of a loop
 
 -- one iteration a call, where the guard does not hold
@@ -46,10 +44,11 @@ abbrev chunked : Called → Called → (ℕ → ℕ → ℕ → ℕ → ℕ → 
 chunked chunk rest args lanes n mem = then_calls (calls_in_turn chunk (args lanes 0) lanes (n / lanes) 0 mem) (λ m. calls_in_turn rest (args 1 (n / lanes * lanes)) 1 (n % lanes) 0 m)
 
 -- where a call of the chunk stopped
-pub chunk_stops : (chunk rest : Called) (args : ℕ → ℕ → ℕ → ℕ → ℕ → ℕ) (lanes n k : ℕ) (fast : Bool) (x : Stop) (a b : Outer) → fast ≡ true → k ≡ n →
-    Leads Ran a b (λ mem. calls_in_turn chunk (args lanes 0) lanes (k / lanes) 0 mem) (λ mem. record { stop = Some x; mem = mem }) →
-    Leads Ran a b (λ mem. all_calls chunk rest args lanes fast n mem) (λ mem. record { stop = Some x; mem = mem })
-chunk_stops chunk rest args lanes n k fast x a b f e p =
+pub chunk_stops : (chunk rest : Called) (args : ℕ → ℕ → ℕ → ℕ → ℕ → ℕ) (lanes n k : ℕ) (fast : Bool) (stop : Option Stop) (a b : Outer) → fast ≡ true → k ≡ n → is_some stop ≡ true →
+    Leads Ran a b (λ mem. calls_in_turn chunk (args lanes 0) lanes (k / lanes) 0 mem) (λ mem. record { stop = stop; mem = mem }) →
+    Leads Ran a b (λ mem. all_calls chunk rest args lanes fast n mem) (λ mem. record { stop = stop; mem = mem })
+chunk_stops chunk rest args lanes n k fast None a b f e some p = absurd (false≢true some)
+chunk_stops chunk rest args lanes n k fast (Some x) a b f e some p =
     leads_as Ran a b (λ mem. chunked chunk rest args lanes k mem) (λ mem. record { stop = Some x; mem = mem }) (λ mem. all_calls chunk rest args lanes fast n mem) (λ mem. record { stop = Some x; mem = mem })
     (λ mem. ap (λ t. all_calls chunk rest args lanes t n mem) f ∙ ap (λ i. chunked chunk rest args lanes i mem) (sym e))
     (λ mem. refl)
@@ -67,11 +66,12 @@ chunk_breaks p chunk rest args lanes n k fast a b fault f e grows q =
     (λ m. turns_grow p rest (args 1 (k / lanes * lanes)) 1 grows (k % lanes) 0 m)))
 
 -- where none did: the rest
-pub rest_runs : (r : Result (Option Stop) Outside) (chunk rest : Called) (args : ℕ → ℕ → ℕ → ℕ → ℕ → ℕ) (words : ℕ → ℕ → ℕ → ℕ) (lanes one n k : ℕ) (fast : Bool) (a b d : Outer) → fast ≡ true → k ≡ n → one ≡ 1 → words ≡ args one (k / lanes * lanes) →
-    Leads Ran a b (λ mem. calls_in_turn chunk (args lanes 0) lanes (k / lanes) 0 mem) (λ mem. record { stop = None; mem = mem }) →
+pub rest_runs : (r : Result (Option Stop) Outside) (chunk rest : Called) (args : ℕ → ℕ → ℕ → ℕ → ℕ → ℕ) (words : ℕ → ℕ → ℕ → ℕ) (lanes one n k : ℕ) (fast : Bool) (stop : Option Stop) (a b d : Outer) → fast ≡ true → k ≡ n → one ≡ 1 → words ≡ args one (k / lanes * lanes) → is_some stop ≡ false →
+    Leads Ran a b (λ mem. calls_in_turn chunk (args lanes 0) lanes (k / lanes) 0 mem) (λ mem. record { stop = stop; mem = mem }) →
     RunsCalls r b d (λ mem. calls_in_turn rest words one (k % lanes) 0 mem) →
     RunsCalls r a d (λ mem. all_calls chunk rest args lanes fast n mem)
-rest_runs r chunk rest args words lanes one n k fast a b d f e o g p q =
+rest_runs r chunk rest args words lanes one n k fast (Some x) a b d f e o g none p q = absurd (false≢true (sym none))
+rest_runs r chunk rest args words lanes one n k fast None a b d f e o g none p q =
     calls_as r a d (λ mem. chunked chunk rest args lanes k mem) (λ mem. all_calls chunk rest args lanes fast n mem)
     (λ mem. ap (λ t. all_calls chunk rest args lanes t n mem) f ∙ ap (λ i. chunked chunk rest args lanes i mem) (sym e))
     (by r (calls_as r b d (λ mem. calls_in_turn rest words one (k % lanes) 0 mem) next
@@ -87,6 +87,28 @@ rest_runs r chunk rest args words lanes one n k fast a b d f e o g p q =
     by : (r : Result (Option Stop) Outside) → RunsCalls r b d next → RunsCalls r a d (λ mem. chunked chunk rest args lanes k mem)
     by (Ok stop) h = leads_then Ran a b d (λ mem. chunked chunk rest args lanes k mem) next (λ mem. record { stop = stop; mem = mem }) first h
     by (Err fault) h = breaks_after Ran (λ r. r.mem) a b d fault (λ mem. chunked chunk rest args lanes k mem) next (λ mem. (next mem).mem) first h (λ mem. grows_same (next mem).mem)
+
+-- ---- for how many iterations the calls are
+
+one_each : (n : ℕ) → n * 1 ≡ n
+one_each n = omega arith
+
+pub slow_asked : (lanes n k most turns : ℕ) → lanes ≡ 1 → most ≡ min n turns → n ≡ k → 0 + most * lanes ≤ k
+slow_asked lanes n k most turns o m e = subst (λ l. 0 + most * l ≤ k) (sym o) (omega (arith, m, e))
+
+pub chunk_asked : (lanes n most turns : ℕ) → most ≡ min n turns → 0 + most / lanes * lanes ≤ n
+chunk_asked lanes n most turns m = at_most (most / lanes * lanes) (div-mul-le_self most lanes)
+  where
+    at_most : (x : ℕ) → x ≤ most → 0 + x ≤ n
+    at_most x h = omega (arith, h, m)
+
+pub rest_asked : (lanes one n k most turns : ℕ) → one ≡ 1 → most ≡ min n turns → n ≡ k → most / lanes * lanes + most % lanes * one ≤ k
+rest_asked lanes one n k most turns o m e =
+    subst (λ l. most / lanes * lanes + most % lanes * l ≤ k) (sym o) (subst (λ y. most / lanes * lanes + y ≤ k) (sym (one_each (most % lanes)))
+    (at_most (most / lanes * lanes) (most % lanes) (div-mul-le_self most lanes) (mod-eq-sub-div-mul most lanes)))
+  where
+    at_most : (x y : ℕ) → x ≤ most → y ≡ most - x → x + y ≤ k
+    at_most x y h f = omega (arith, h, f, m, e)
 
 -- ---- the lane of the loop
 
@@ -145,11 +167,11 @@ module _ (s : Site) (m k : ℕ) (o : Simd) (chunk rest : Called) (n : ℕ) (l : 
       (λ mem. ap (λ (w : World). w.mem) (loop_is mem) ∙ after_mem n s.turns (l 0) (calls_of_loop s o chunk rest (l 0) n mem)) p
 
 -- where lane 0 is not live, nothing happens
-pub loop_none : (s : Site) (m k : ℕ) (o : Simd) (w : World) → is_live m (w.lane 0) ≡ false → simd_of s k ≡ Some o → runs_simd s m (simd_of s k) w ≡ w
-loop_none s m k o w dead found =
-    ap (λ x. runs_simd s m x w) found
-    ∙ (ap (λ t. in_world (cond t (simd_in s o (record { lane = w.lane 0; mem = w.mem })) (record { lane = w.lane 0; mem = w.mem }))) dead
-    ∙ ap (λ f. world f w.mem) (put_self w.lane 0))
+pub loop_none : (s : Site) (m : ℕ) (o : Option Simd) (w : World) → is_live m (w.lane 0) ≡ false → runs_simd s m o w ≡ w
+loop_none s m None w dead = refl
+loop_none s m (Some o) w dead =
+    ap (λ t. in_world (cond t (simd_in s o (record { lane = w.lane 0; mem = w.mem })) (record { lane = w.lane 0; mem = w.mem }))) dead
+    ∙ ap (λ f. world f w.mem) (put_self w.lane 0)
   where
     in_world : View → World
     in_world v = record { lane = put w.lane 0 v.lane; mem = v.mem }

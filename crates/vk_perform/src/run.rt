@@ -255,7 +255,6 @@ fn call_one<O: Sink>(
     requires mask { m < (listing place.now).routine.masks }
     requires found { IsCall place.now slot found.now }
     requires lane { lane < (entry place.now).lanes }
-    requires one { (entry found.now.place).lanes ≡ 1 }
     ensures keeps { Keeps place.now frame.new memory.new }
     ensures runs { Runs result (lanes_of frame.old) (lanes_of frame.new) (outer_of memory.old (O.state out.old)) (outer_of memory.new (O.state out.new))
         (in_lane (call_one m (call_site_of found.now.slot.now) (enters found.now.place.number (site found.now.place))) lane) }
