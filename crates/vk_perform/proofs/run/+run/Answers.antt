@@ -22,7 +22,7 @@ use Rattle.vk_calls.specs.Fetched.{IsPart}
 use Rattle.vk_calls.specs.declared.fetch.Fetched.{Fetched}
 use Rattle.vk_perform.specs.Performed.{performed}
 use Rattle.vk_perform.proofs.Calling.{a_stop, call_breaks, call_goes, call_none, call_one_breaks, call_one_goes, call_one_none, first_below, no_stop, target_all, target_each, turn_breaks, turn_goes}
-use Rattle.vk_perform.proofs.Fitting.{all_taken, fits_all_taken, fits_out, fits_taken, has_a_lane, whole}
+use Rattle.vk_perform.proofs.Fitting.{all_taken, fits_all_taken, fits_counted, fits_out, fits_taken, has_a_lane, loop_mask, loop_there, whole}
 use Rattle.vk_perform.proofs.Growing.{GrowsLogs, again_grows, call_one_grows, calls_grow, run_grows, sweep_grows}
 use Rattle.vk_perform.proofs.Looping.{calls_as, calls_broken, chunk_asked, chunk_breaks, chunk_stops, loop_breaks, loop_goes, loop_none, rest_asked, rest_runs, slow_asked, slow_calls}
 use Rattle.vk_perform.proofs.Running.{again_done, again_more, again_out, part_left, run_fetched, run_zero, runs_counted}
@@ -298,8 +298,9 @@ enter-run_block-requires g n c =
     let p = c.args.place.now in
     let code = out-Code p.code.now in
     let count : c.len.result ≡ length code.instrs.items = search rules in
-    let part : IsPart p 0 c.len.result = subst (λ k. IsPart p 0 k) (sym count) (whole p c.requires.ready.sound) in
-    search (rules, part)
+    let r = c.requires.ready in
+    λ κs within. (search rules, (search rules, (record { sound = r.sound; fits = r.fits; store = fits_counted p.image.now c.args.memory.now c.count.new.store r.store c.count.ensures.cells c.count.ensures.length; room = r.room },
+    subst (λ k. IsPart p 0 k) (sym count) (whole p r.sound))))
 
 pub repeat_block-returns-then-any_live-clause-keeps : goal.repeat_block-returns-then-any_live-clause-keeps
 repeat_block-returns-then-any_live-clause-keeps g n c = record {
@@ -325,8 +326,8 @@ call_all_turns-call_in_turn-requires g n c =
     let lane : LaneState = lanes_of c.args.frame.now 0 in
     let asked_of : LoopSite → ℕ = λ l. iterations (number_at (regs p) lane (simd_site_of l).low) (number_at (regs p) lane (simd_site_of l).high) in
     let same : c.args.asked ≡ asked_of found.rest.site.now = c.requires.asked ∙ ap asked_of (sym c.requires.found.is.same) in
-    let fits : 0 + c.least-most.result * (entry found.rest.place).lanes ≤ asked_of found.rest.site.now = slow_asked (entry found.rest.place).lanes c.args.asked _ c.least-most.result p.turns c.requires.found.is.one c.least-most.ensures same in
-    search (rules, fits)
+    λ κs within. (search rules, (search rules, (c.requires.ready, (c.requires.found.rest, (c.requires.some,
+    slow_asked (entry found.rest.place).lanes c.args.asked (asked_of found.rest.site.now) c.least-most.result p.turns c.requires.found.is.one c.least-most.ensures same)))))
 
 pub call_all_turns-returns-then-not-guard_holds-clause-runs : goal.call_all_turns-returns-then-not-guard_holds-clause-runs
 call_all_turns-returns-then-not-guard_holds-clause-runs g n c =
@@ -347,9 +348,9 @@ pub call_all_turns-call_in_turn-requires-2 : goal.call_all_turns-call_in_turn-re
 call_all_turns-call_in_turn-requires-2 g n c =
     let p = c.args.place.now in
     let found = c.args.found.now in
-    let fits = chunk_asked (entry found.chunk.place).lanes c.from-lanes.result c.args.asked c.least-most.result p.turns c.from-lanes.ensures c.least-most.ensures in
-    let there = subst (λ k. 0 + c.least-most.result / c.from-lanes.result * (entry found.chunk.place).lanes ≤ k) c.requires.asked fits in
-    search (rules, there)
+    λ κs within. (search rules, (search rules, (c.requires.ready, (c.requires.found.chunk, (c.requires.some,
+    subst (λ k. 0 + c.least-most.result / c.from-lanes.result * (entry found.chunk.place).lanes ≤ k) c.requires.asked
+    (chunk_asked (entry found.chunk.place).lanes c.from-lanes.result c.args.asked c.least-most.result p.turns c.from-lanes.ensures c.least-most.ensures))))))
 
 pub call_all_turns-returns-in_err-stop-clause-runs : goal.call_all_turns-returns-in_err-stop-clause-runs
 call_all_turns-returns-in_err-stop-clause-runs g n c =
@@ -393,8 +394,9 @@ call_all_turns-call_in_turn-requires-3 g n c =
     let lane : LaneState = lanes_of c.args.frame.now 0 in
     let asked_of : LoopSite → ℕ = λ l. iterations (number_at (regs p) lane (simd_site_of l).low) (number_at (regs p) lane (simd_site_of l).high) in
     let same : c.args.asked ≡ asked_of found.rest.site.now = c.requires.asked ∙ ap asked_of (sym c.requires.found.is.same) in
-    let fits = rest_asked c.from-lanes.result (entry found.rest.place).lanes c.args.asked (asked_of found.rest.site.now) c.least-most.result p.turns c.requires.found.is.one c.least-most.ensures same in
-    search (rules, fits)
+    let r = c.requires.ready in
+    λ κs within. (search rules, (search rules, (record { sound = r.sound; fits = r.fits; store = c.in_ok-stop.ensures.store; room = search rules }, (c.requires.found.rest, (c.requires.some,
+    rest_asked c.from-lanes.result (entry found.rest.place).lanes c.args.asked (asked_of found.rest.site.now) c.least-most.result p.turns c.requires.found.is.one c.least-most.ensures same)))))
 
 pub call_all_turns-returns-clause-runs : goal.call_all_turns-returns-clause-runs
 call_all_turns-returns-clause-runs g n c =
@@ -448,8 +450,10 @@ call_in_turn-returns-clause-runs g n c =
 pub perform-run_simd-requires : goal.perform-run_simd-requires
 perform-run_simd-requires g n c =
     let p = c.args.place.now in
-    let some : 0 < (entry p).lanes = has_a_lane p c.requires.ready.sound in
-    search (rules, some)
+    λ κs within. (search rules, (search rules, (c.requires.ready,
+    (loop_mask p c.args.at c.args.left c.args.fetched c.in-Simd.instr c.in-Simd.number c.in-Simd.is c.requires.fetched,
+    (loop_there p c.args.at c.args.left c.args.fetched c.in-Simd.instr c.in-Simd.number c.in-Simd.is c.requires.fetched,
+    has_a_lane p c.requires.ready.sound)))))
 
 pub perform-returns-in-Block-clause-runs : goal.perform-returns-in-Block-clause-runs
 perform-returns-in-Block-clause-runs g n c =
