@@ -299,14 +299,22 @@ enter-run_block-requires g n c =
     let code = out-Code p.code.now in
     let count : c.len.result ≡ length code.instrs.items = search rules in
     let r = c.requires.ready in
-    λ κs within. (search rules, (search rules, (record { sound = r.sound; fits = r.fits; store = fits_counted p.image.now c.args.memory.now c.count.new.store r.store c.count.ensures.cells c.count.ensures.length; room = r.room },
-    subst (λ k. IsPart p 0 k) (sym count) (whole p r.sound))))
+    λ κs within. (
+      search rules,
+      (
+        search rules,
+        (
+          record { sound = r.sound; fits = r.fits; store = fits_counted p.image.now c.args.memory.now c.count.new.store r.store c.count.ensures.cells c.count.ensures.length; room = r.room },
+          subst (λ k. IsPart p 0 k) (sym count) (whole p r.sound),
+        ),
+      ),
+    )
 
 pub repeat_block-returns-then-any_live-clause-keeps : goal.repeat_block-returns-then-any_live-clause-keeps
 repeat_block-returns-then-any_live-clause-keeps g n c = record {
-      fits = fits_out c.args.place.now c.loop.frame c.stop_turns.new.frame c.args.m c.loop.invariant.ready.fits c.stop_turns.ensures.fits c.stop_turns.ensures.lanes;
-      store = c.loop.invariant.ready.store;
-    }
+  fits = fits_out c.args.place.now c.loop.frame c.stop_turns.new.frame c.args.m c.loop.invariant.ready.fits c.stop_turns.ensures.fits c.stop_turns.ensures.lanes;
+  store = c.loop.invariant.ready.store;
+}
 
 pub call-pass_all-requires-clause-first : goal.call-pass_all-requires-clause-first
 call-pass_all-requires-clause-first g n c =
@@ -326,8 +334,22 @@ call_all_turns-call_in_turn-requires g n c =
     let lane : LaneState = lanes_of c.args.frame.now 0 in
     let asked_of : LoopSite → ℕ = λ l. iterations (number_at (regs p) lane (simd_site_of l).low) (number_at (regs p) lane (simd_site_of l).high) in
     let same : c.args.asked ≡ asked_of found.rest.site.now = c.requires.asked ∙ ap asked_of (sym c.requires.found.is.same) in
-    λ κs within. (search rules, (search rules, (c.requires.ready, (c.requires.found.rest, (c.requires.some,
-    slow_asked (entry found.rest.place).lanes c.args.asked (asked_of found.rest.site.now) c.least-most.result p.turns c.requires.found.is.one c.least-most.ensures same)))))
+    λ κs within. (
+      search rules,
+      (
+        search rules,
+        (
+          c.requires.ready,
+          (
+            c.requires.found.rest,
+            (
+              c.requires.some,
+              slow_asked (entry found.rest.place).lanes c.args.asked (asked_of found.rest.site.now) c.least-most.result p.turns c.requires.found.is.one c.least-most.ensures same,
+            ),
+          ),
+        ),
+      ),
+    )
 
 pub call_all_turns-returns-then-not-guard_holds-clause-runs : goal.call_all_turns-returns-then-not-guard_holds-clause-runs
 call_all_turns-returns-then-not-guard_holds-clause-runs g n c =
@@ -348,9 +370,23 @@ pub call_all_turns-call_in_turn-requires-2 : goal.call_all_turns-call_in_turn-re
 call_all_turns-call_in_turn-requires-2 g n c =
     let p = c.args.place.now in
     let found = c.args.found.now in
-    λ κs within. (search rules, (search rules, (c.requires.ready, (c.requires.found.chunk, (c.requires.some,
-    subst (λ k. 0 + c.least-most.result / c.from-lanes.result * (entry found.chunk.place).lanes ≤ k) c.requires.asked
-    (chunk_asked (entry found.chunk.place).lanes c.from-lanes.result c.args.asked c.least-most.result p.turns c.from-lanes.ensures c.least-most.ensures))))))
+    λ κs within. (
+      search rules,
+      (
+        search rules,
+        (
+          c.requires.ready,
+          (
+            c.requires.found.chunk,
+            (
+              c.requires.some,
+              subst (λ k. 0 + c.least-most.result / c.from-lanes.result * (entry found.chunk.place).lanes ≤ k) c.requires.asked
+                  (chunk_asked (entry found.chunk.place).lanes c.from-lanes.result c.args.asked c.least-most.result p.turns c.from-lanes.ensures c.least-most.ensures),
+            ),
+          ),
+        ),
+      ),
+    )
 
 pub call_all_turns-returns-in_err-stop-clause-runs : goal.call_all_turns-returns-in_err-stop-clause-runs
 call_all_turns-returns-in_err-stop-clause-runs g n c =
@@ -395,8 +431,22 @@ call_all_turns-call_in_turn-requires-3 g n c =
     let asked_of : LoopSite → ℕ = λ l. iterations (number_at (regs p) lane (simd_site_of l).low) (number_at (regs p) lane (simd_site_of l).high) in
     let same : c.args.asked ≡ asked_of found.rest.site.now = c.requires.asked ∙ ap asked_of (sym c.requires.found.is.same) in
     let r = c.requires.ready in
-    λ κs within. (search rules, (search rules, (record { sound = r.sound; fits = r.fits; store = c.in_ok-stop.ensures.store; room = search rules }, (c.requires.found.rest, (c.requires.some,
-    rest_asked c.from-lanes.result (entry found.rest.place).lanes c.args.asked (asked_of found.rest.site.now) c.least-most.result p.turns c.requires.found.is.one c.least-most.ensures same)))))
+    λ κs within. (
+      search rules,
+      (
+        search rules,
+        (
+          record { sound = r.sound; fits = r.fits; store = c.in_ok-stop.ensures.store; room = search rules },
+          (
+            c.requires.found.rest,
+            (
+              c.requires.some,
+              rest_asked c.from-lanes.result (entry found.rest.place).lanes c.args.asked (asked_of found.rest.site.now) c.least-most.result p.turns c.requires.found.is.one c.least-most.ensures same,
+            ),
+          ),
+        ),
+      ),
+    )
 
 pub call_all_turns-returns-clause-runs : goal.call_all_turns-returns-clause-runs
 call_all_turns-returns-clause-runs g n c =
@@ -450,10 +500,22 @@ call_in_turn-returns-clause-runs g n c =
 pub perform-run_simd-requires : goal.perform-run_simd-requires
 perform-run_simd-requires g n c =
     let p = c.args.place.now in
-    λ κs within. (search rules, (search rules, (c.requires.ready,
-    (loop_mask p c.args.at c.args.left c.args.fetched c.in-Simd.instr c.in-Simd.number c.in-Simd.is c.requires.fetched,
-    (loop_there p c.args.at c.args.left c.args.fetched c.in-Simd.instr c.in-Simd.number c.in-Simd.is c.requires.fetched,
-    has_a_lane p c.requires.ready.sound)))))
+    λ κs within. (
+      search rules,
+      (
+        search rules,
+        (
+          c.requires.ready,
+          (
+            loop_mask p c.args.at c.args.left c.args.fetched c.in-Simd.instr c.in-Simd.number c.in-Simd.is c.requires.fetched,
+            (
+              loop_there p c.args.at c.args.left c.args.fetched c.in-Simd.instr c.in-Simd.number c.in-Simd.is c.requires.fetched,
+              has_a_lane p c.requires.ready.sound,
+            ),
+          ),
+        ),
+      ),
+    )
 
 pub perform-returns-in-Block-clause-runs : goal.perform-returns-in-Block-clause-runs
 perform-returns-in-Block-clause-runs g n c =
