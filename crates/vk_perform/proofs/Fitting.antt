@@ -1,6 +1,5 @@
 -- A frame fits its place after a call, and after a block that was out of turns.
-use Rattle.std.proofs.Common.{◌≡◌, refl, ℕ, zero, ◌+◌, ◌<◌, ◌≤◌, ◌==◌, nat_le, Bool, true, false, cond, nat_lt, not, List, length, Option, Some, None, ap, arith, sym, subst, ◌∙◌, ◌&&◌, ◌||◌}
-use Rattle.std.specs.Prelude.{slice_get}
+use Rattle.std.proofs.Common.{◌≡◌, refl, ℕ, zero, ◌<◌, ◌==◌, nat_le, Bool, true, false, cond, nat_lt, not, List, length, Option, Some, None, ap, arith, sym, subst, ◌∙◌, ◌||◌}
 use Rattle.std.specs.List.{list_all}
 use Rattle.std.proofs.lemmas.Bool.{eqb-true, leb-true, ltb-true}
 use Rattle.std.specs.declared.alloc.Global.{Global}

@@ -1,5 +1,5 @@
 -- Simd loops: the calls of the body, and the lane after them.
-use Rattle.std.proofs.Common.{◌≡◌, ℕ, ◌-◌, ◌*◌, ◌/◌, ◌%◌, ◌+◌, ◌<◌, ◌≤◌, arith, nat_lt, refl, ap, sym, ◌∙◌, subst, cond, true, false, Bool, Option, Some, None, Result, Ok, Err}
+use Rattle.std.proofs.Common.{◌≡◌, ℕ, ◌-◌, ◌*◌, ◌/◌, ◌%◌, ◌+◌, ◌≤◌, arith, nat_lt, refl, ap, sym, ◌∙◌, subst, cond, true, false, Bool, Option, Some, None, Result, Ok, Err}
 use Rattle.std.specs.Prelude.{is_some, min}
 use Rattle.std.proofs.lemmas.Bool.{false≢true}
 use Rattle.std.proofs.Math.Nat.{div-mul-le_self, mod-eq-sub-div-mul}
@@ -10,10 +10,9 @@ use Rattle.vk_object.specs.Memory.{Memory}
 use Rattle.vk_object.specs.Lane.{LaneState, View, is_live, number_at, with_stop}
 use Rattle.vk_object.specs.Machine.{Called, Ran, Simd, Site, World, after_calls, all_calls, body_args, calls_in_turn, guard_holds, iterations, put, runs_simd, simd_in, simd_of, then_calls}
 use Rattle.vk_frames.proofs.Writes.{put_self}
-use Rattle.vk_runs.specs.Logs.{Grows}
 use Rattle.vk_runs.proofs.Logs.{grows_same}
 use Rattle.vk_steps.specs.declared.place.Place.{Place}
-use Rattle.vk_access.specs.Outer.{Breaks, Goes, Leads, Outer, Runs, RunsCalls, world}
+use Rattle.vk_access.specs.Outer.{Breaks, Goes, Leads, Outer, RunsCalls, world}
 use Rattle.vk_access.proofs.Leading.{breaks_after, breaks_as, breaks_more, leads_as, leads_map, leads_then}
 use Rattle.vk_entries.specs.Settled.{settled}
 use Rattle.vk_perform.proofs.Growing.{GrowsLogs, then_grows, turns_grow}

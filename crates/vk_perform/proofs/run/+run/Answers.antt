@@ -1,11 +1,11 @@
-use Rattle.std.proofs.Common.{◌≡◌, arith, rules, refl, sym, subst, ◌∙◌, ap, ◌+◌, ◌-◌, ◌*◌, ◌/◌, ◌%◌, ap₂, ◌<◌, ◌≤◌, drop, zero, length, ℕ, true, false, Bool, Option, None}
+use Rattle.std.proofs.Common.{◌≡◌, arith, rules, refl, sym, subst, ◌∙◌, ap, ◌+◌, ◌-◌, ◌*◌, ◌/◌, ◌%◌, ap₂, ◌<◌, ◌≤◌, drop, zero, length, ℕ, true, false, Bool, Option}
 use Rattle.std.specs.Prelude.{min}
 use Rattle.vk_types.specs.declared.types.Stop.{Stop}
 use Rattle.vk_code.specs.declared.code.LoopSite.{LoopSite}
 use Rattle.vk_code.specs.Listing.{call_site_of, simd_site_of}
 use Rattle.vk_object.specs.Lane.{LaneState, View, is_live, number_at}
 use Rattle.vk_object.specs.Memory.{Calls, logged}
-use Rattle.vk_object.specs.Machine.{Called, Ran, Target, World, again, any_live, body_args, call_all, call_one, calls_in_turn, enters, entry_at, first_lane, first_live, guard_holds, in_lane, iterations, lane_args, lowest_stop, run, runs_entry, Simd, simd_of, sweep, target_of}
+use Rattle.vk_object.specs.Machine.{Called, Ran, Target, World, again, any_live, body_args, call_one, calls_in_turn, enters, first_lane, first_live, guard_holds, in_lane, iterations, lane_args, lowest_stop, run, runs_entry, Simd, simd_of, sweep}
 use Rattle.vk_frames.specs.Frames.{lanes_of}
 use Rattle.vk_steps.specs.Places.{entry, listing, regs, site}
 use Rattle.std.specs.declared.alloc.Global.{Global}
