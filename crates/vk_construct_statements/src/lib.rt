@@ -1,0 +1,2 @@
+//! Statements as code that is appended: what each does in every lane of every run.
+#![tactic(auto)]
