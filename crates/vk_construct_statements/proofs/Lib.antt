@@ -1,3 +1,4 @@
 pub mod Branches
+pub mod Flow
 pub mod Loops
 pub mod Straight

@@ -1,37 +1,36 @@
 -- Loops, in one lane.
-use Rattle.std.proofs.Common.{arith, sym, ◌≡◌, ◌≢◌, ℕ, zero, suc, ◌+◌, ◌<◌, ◌≤◌, ◌==◌, Bool, true, false, cond, not, ◌||◌, ◌&&◌, Option, Some, None, refl, subst, ap, ap₂, ◌∙◌, ◌⊎◌, inl, inr, ℤ, pos, Result, Ok, Err, true≢false}
+use Rattle.std.proofs.Common.{arith, sym, ◌≡◌, ◌≢◌, ℕ, zero, suc, ◌+◌, ◌<◌, ◌==◌, Bool, true, false, cond, not, ◌&&◌, Some, None, refl, subst, ap, ap₂, ◌∙◌, inl, inr, true≢false}
 use Rattle.vk_types.specs.declared.types.Stop.{Stop}
 use Rattle.vk_types.specs.declared.types.Stop.TheVariants.{Turns}
 use Rattle.vk_types.specs.declared.types.Ty.{Ty}
-use Rattle.vk_kinds.specs.declared.heads.CType.{CType}
-use Rattle.vk_kinds.specs.declared.heads.CType.TheVariants.{Void, Int, Ptr}
+use Rattle.vk_kinds.specs.declared.heads.CType.TheVariants.{Int}
 use Rattle.vk_numbers.specs.Operators.{is_on}
 use Rattle.vk_meaning.specs.World.{World}
-use Rattle.vk_meaning.specs.Data.{Datum, Value, got, halts, number_in}
-use Rattle.vk_meaning.specs.Statements.{State, at_world, Evaluation, Outcome, fell, broke, continued, returned, stopped, Effect, on_value, on_fell, on_turn, then_do, uncontinued, branch, turns, repeat, with_third}
-use Rattle.vk_meaning.specs.Lanes.{datum_of, IsWord}
+use Rattle.vk_meaning.specs.Data.{Value, got, halts, number_in}
+use Rattle.vk_meaning.specs.Statements.{State, at_world, Evaluation, Outcome, fell, broke, continued, returned, stopped, Effect, on_value, on_fell, on_turn, uncontinued, branch, turns, repeat, with_third}
+use Rattle.vk_meaning.specs.Lanes.{IsWord}
 use Rattle.vk_object.specs.Lane.{is_live, with_stop}
-use Rattle.vk_lane.specs.Places.{Share, Place, IsPlace, IsSound, reg_type}
-use Rattle.vk_lane.specs.Pieces.{Repeats, out_share, Stays}
-use Rattle.vk_lane.specs.Writes.{Writes, Masks}
+use Rattle.vk_lane.specs.Places.{Share, Place, IsSound, reg_type}
+use Rattle.vk_lane.specs.Pieces.{Repeats, Stays}
+use Rattle.vk_lane.specs.Writes.{Masks}
 use Rattle.vk_construct.specs.Computes.{Table, IsTable, Holds, Keeps, Has, Gives, Computes}
-use Rattle.vk_construct_statements.specs.Follows.{Guards, AreApart, Ret, Exits, After, Follows, inner, Works, Round, LoopEnds, TestEnds, TurnEnds, Turn}
-use Rattle.vk_lane.proofs.Rules.{same_number, same_yes, same_not}
-use Rattle.vk_construct.proofs.Values.{keeps_same, keeps_then, keeps_less, holds_keeps, live_is, off_is, gone_is}
+use Rattle.vk_construct_statements.specs.Follows.{IsTested, Guards, AreApart, ReturnPlace, Exits, After, Follows, inner, Works, Round, LoopEnds, TestEnds, TurnEnds, Turn}
+use Rattle.vk_lane.proofs.Rules.{same_number, same_yes}
+use Rattle.vk_construct.proofs.Values.{keeps_same, keeps_then, holds_keeps, live_is, off_is, gone_is}
 use Rattle.vk_construct.proofs.Choices.{Masked, masked_by, masked_keeps, tested}
-use Rattle.vk_construct_statements.proofs.Straight.{exits_keeps, holds_same}
+use Rattle.vk_construct_statements.proofs.Straight.{holds_same}
 
 -- ---- turns
 
 -- a lane that is out of the loop's mask idles
-loop_gone : (x : Place) (v : Ret) (tb : Table) (e : Evaluation) (effect : Effect) (f nr : ℕ) (n j : ℕ) (h h' : Share) → Repeats f (Turn x v tb e effect f nr) n j h h' → (z : Stop) → h.lane.stop ≡ Some z → Stays z h.world h'
+loop_gone : (x : Place) (v : ReturnPlace) (tb : Table) (e : Evaluation) (effect : Effect) (f nr : ℕ) (n j : ℕ) (h h' : Share) → Repeats f (Turn x v tb e effect f nr) n j h h' → (z : Stop) → h.lane.stop ≡ Some z → Stays z h.world h'
 loop_gone x v tb e effect f nr zero j h h' r z s = subst (Stays z h.world) (sym r) (record { stop = ap (λ b. (cond b (with_stop h.lane Turns) h.lane).stop) (gone_is f h.lane z s) ∙ s; world = refl })
 loop_gone x v tb e effect f nr (suc n) j h h' (inl r) z s = subst (Stays z h.world) (sym r.1) (record { stop = s; world = refl })
 loop_gone x v tb e effect f nr (suc n) j h h' (inr r) z s =
     let k : Stays z h.world r.0 = r.1.gone z s in
     let q : Stays z (r.0).world h' = loop_gone x v tb e effect f nr n j r.0 h' r.2 z k.stop in record { stop = q.stop; world = q.world ∙ k.world }
 
-loop_off : (x : Place) (v : Ret) (tb : Table) (e : Evaluation) (effect : Effect) (f nr : ℕ) (n j : ℕ) (h h' : Share) → Repeats f (Turn x v tb e effect f nr) n j h h' → h.lane.stop ≡ None → h.lane.on f ≡ false → (dk : ℕ) → Keeps dk (f + 1) h.world h h'
+loop_off : (x : Place) (v : ReturnPlace) (tb : Table) (e : Evaluation) (effect : Effect) (f nr : ℕ) (n j : ℕ) (h h' : Share) → Repeats f (Turn x v tb e effect f nr) n j h h' → h.lane.stop ≡ None → h.lane.on f ≡ false → (dk : ℕ) → Keeps dk (f + 1) h.world h h'
 loop_off x v tb e effect f nr zero j h h' r s o dk = subst (Keeps dk (f + 1) h.world h) (sym r)
     (subst (λ b. Keeps dk (f + 1) h.world h (record { lane = cond b (with_stop h.lane Turns) h.lane; world = h.world })) (sym (off_is f h.lane o)) (keeps_same dk (f + 1) h.world h s refl))
 loop_off x v tb e effect f nr (suc n) j h h' (inl r) s o dk = subst (Keeps dk (f + 1) h.world h) (sym r.1) (keeps_same dk (f + 1) h.world h s refl)
@@ -46,7 +45,7 @@ round_then f nr p n h mid h' l a b = record { going = b.going; itself = b.itself
 round_idle : (f nr d : ℕ) (w : World) (n : Bool) (h mid h' : Share) → nr < f → Round f nr false n h mid → Keeps d (f + 1) w mid h' → Round f nr false n h h'
 round_idle f nr d w n h mid h' l a k = record { going = k.going; itself = k.masks f (omega arith) ∙ a.itself; stays = k.masks nr (omega (arith, l)) ∙ a.stays; others = λ q lq ne. k.masks q (omega (arith, lq)) ∙ a.others q lq ne }
 
-pub loop_runs : (x : Place) (v : Ret) (tb : Table) (e : Evaluation) (effect : Effect) (f nr : ℕ) → nr < f → (n j : ℕ) (s : State) (h h' : Share) → Repeats f (Turn x v tb e effect f nr) n j h h' → h.lane.stop ≡ None → h.lane.on f ≡ true → h.lane.on nr ≡ true → Holds tb s h →
+pub loop_runs : (x : Place) (v : ReturnPlace) (tb : Table) (e : Evaluation) (effect : Effect) (f nr : ℕ) → nr < f → (n j : ℕ) (s : State) (h h' : Share) → Repeats f (Turn x v tb e effect f nr) n j h h' → h.lane.stop ≡ None → h.lane.on f ≡ true → h.lane.on nr ≡ true → Holds tb s h →
     LoopEnds x j v tb f nr h h' (turns n e effect s)
 loop_runs x v tb e effect f nr lnr zero j s h h' r st o q hold = subst (Stays Turns s.world) (sym r)
     (record { stop = ap (λ b. (cond b (with_stop h.lane Turns) h.lane).stop) (live_is f h.lane o st); world = sym hold.world })
@@ -86,14 +85,14 @@ loop_runs x v tb e effect f nr lnr (suc n) j s h h' (inr r) st o q hold = turn (
 -- ---- a turn's work
 
 pub apart_inner : (f nr : ℕ) → nr < f → AreApart (inner f nr)
-apart_inner f nr l = record { rm_in = omega arith; lm_in = omega arith; nr_in = omega (arith, l); rm_lm = λ z. absurd (omega (arith, z)); rm_nr = λ z. absurd (omega (arith, z, l)); lm_nr = λ z. absurd (omega (arith, z, l)) }
+apart_inner f nr l = record { running_in = omega arith; looping_in = omega arith; staying_in = omega (arith, l); running_looping = λ z. absurd (omega (arith, z)); running_staying = λ z. absurd (omega (arith, z, l)); looping_staying = λ z. absurd (omega (arith, z, l)) }
 
 and_self : (b : Bool) → (b && b) ≡ b
 and_self true = refl
 and_self false = refl
 
 -- the running mask is a copy of the loop's mask, and then comes the body
-pub works_body : (x : Place) (v : Ret) (tb : Table) (effect : Effect) (f nr j : ℕ) (h h1 h2 : Share) → nr < f →
+pub works_body : (x : Place) (v : ReturnPlace) (tb : Table) (effect : Effect) (f nr j : ℕ) (h h1 h2 : Share) → nr < f →
     Masks (f + 1) (λ q. q.lane.on f && q.lane.on f) j h h1 → Follows x v tb tb effect (inner f nr) j h1 h2 → Works x v tb effect f nr j h h2
 works_body x v tb effect f nr j h h1 h2 l e c = record {
     gone = λ z s. let k : Stays z h1.world h2 = c.gone z (m1.stop ∙ s) in record { stop = k.stop; world = k.world ∙ m1.world };
@@ -115,7 +114,7 @@ works_body x v tb effect f nr j h h1 h2 l e c = record {
     go (stopped z w) a = a
 
 -- and then, where the body went on or to the turn's end, the third part of a `for`
-pub works_third : (x : Place) (v : Ret) (tb : Table) (body third : Effect) (f nr j : ℕ) (h h1 h2 h3 : Share) → nr < f →
+pub works_third : (x : Place) (v : ReturnPlace) (tb : Table) (body third : Effect) (f nr j : ℕ) (h h1 h2 h3 : Share) → nr < f →
     Works x v tb body f nr j h h1 → Masks (f + 1) (λ q. q.lane.on f && q.lane.on nr) j h1 h2 → Follows x v tb tb third (inner f nr) j h2 h3 → Works x v tb (with_third body third) f nr j h h3
 works_third x v tb body third f nr j h h1 h2 h3 l w e c = record {
     gone = λ z s. let k : Stays z h.world h1 = w.gone z s in let q : Stays z h2.world h3 = c.gone z (m2.stop ∙ k.stop) in record { stop = q.stop; world = q.world ∙ (m2.world ∙ k.world) };
@@ -156,14 +155,9 @@ works_third x v tb body third f nr j h h1 h2 h3 l w e c = record {
 
 -- ---- a turn: the work, the lanes that returned leave, the condition
 
--- the condition under the loop's mask, which then has the lanes in which it holds
-pub record TestsOn (x : Place) (tb : Table) (e : Evaluation) (f nr j : ℕ) (h h' : Share) : Type 0 where
-  pub gone : (z : Stop) → h.lane.stop ≡ Some z → Stays z h.world h'
-  pub off : h.lane.stop ≡ None → h.lane.on f ≡ false → (dk : ℕ) → Keeps dk (f + 1) h.world h h'
-  pub runs : (s : State) → h.lane.stop ≡ None → h.lane.on f ≡ true → h.lane.on nr ≡ true → Holds tb s h → TestEnds x j tb f nr h h' s (e s.variables s.world)
 
 pub tests_on : (x : Place) (tb : Table) (e : Evaluation) (t : Ty) (r d f nr j : ℕ) (h h1 h2 : Share) → nr < f → IsTable x tb d → reg_type x r ≡ Int t → IsSound x j h1 →
-    Computes x tb e (Int t) r f d (f + 1) j h h1 → Masks f (λ q. is_live f q.lane && not (q.lane.reg r == 0)) j h1 h2 → TestsOn x tb e f nr j h h2
+    Computes x tb e (Int t) r f d (f + 1) j h h1 → Masks f (λ q. is_live f q.lane && not (q.lane.reg r == 0)) j h1 h2 → IsTested x tb e f nr j h h2
 tests_on x tb e t r d f nr j h h1 h2 l it ty so c e2 = record {
     gone = λ z s. let k : Stays z h.world h1 = c.gone z s in record { stop = m2.stop ∙ k.stop; world = m2.world ∙ k.world };
     off = λ n o dk. let k : Keeps dk (f + 1) h.world h h1 = c.off n o dk in record { going = m2.stop ∙ k.going; regs = λ i li. m2.regs i ∙ k.regs i li; masks = λ i li. off_at dk k o i li (i == f) refl; world = m2.world ∙ k.world };
@@ -184,8 +178,8 @@ tests_on x tb e t r d f nr j h h1 h2 l it ty so c e2 = record {
         holds_same tb (at_world s w) h1 h2 m2.regs m2.world (holds_keeps x tb d (f + 1) d w s h h1 it (omega arith) g.0 hold))
     go s o q hold (halts z w) g = record { stop = m2.stop ∙ g.stop; world = m2.world ∙ g.world }
 
-pub turn_of : (x : Place) (v : Ret) (tb : Table) (e : Evaluation) (effect : Effect) (f nr j : ℕ) (h h1 h2 h3 : Share) → nr < f →
-    Works x v tb effect f nr j h h1 → Masks f (λ q. q.lane.on f && q.lane.on nr) j h1 h2 → TestsOn x tb e f nr j h2 h3 → Turn x v tb e effect f nr j h h3
+pub turn_of : (x : Place) (v : ReturnPlace) (tb : Table) (e : Evaluation) (effect : Effect) (f nr j : ℕ) (h h1 h2 h3 : Share) → nr < f →
+    Works x v tb effect f nr j h h1 → Masks f (λ q. q.lane.on f && q.lane.on nr) j h1 h2 → IsTested x tb e f nr j h2 h3 → Turn x v tb e effect f nr j h h3
 turn_of x v tb e effect f nr j h h1 h2 h3 l w e2 t = record {
     gone = λ z s. let k : Stays z h.world h1 = w.gone z s in let q : Stays z h2.world h3 = t.gone z (m2.stop ∙ k.stop) in record { stop = q.stop; world = q.world ∙ (m2.world ∙ k.world) };
     off = λ n o dk. let k : Keeps dk (f + 1) h.world h h1 = w.off n o dk in
@@ -221,90 +215,90 @@ turn_of x v tb e effect f nr j h h1 h2 h3 l w e2 t = record {
 -- ---- whole loops
 
 -- behind a loop the running mask loses the lanes that returned
-leaves : (x : Place) (v : Ret) (tb : Table) (m : Guards) (j : ℕ) (h h1 h3 h4 : Share) → AreApart m → h.lane.on m.rm ≡ true → h.lane.on m.lm ≡ true → ((k : ℕ) → k < m.f → h1.lane.on k ≡ h.lane.on k) →
-    Masked m.rm (h3.lane.on m.rm && h3.lane.on m.nr) h3 h4 → (o : Outcome) → LoopEnds x j v tb m.f m.nr h1 h3 o → After x j v tb tb m h h4 o
+leaves : (x : Place) (v : ReturnPlace) (tb : Table) (m : Guards) (j : ℕ) (h h1 h3 h4 : Share) → AreApart m → h.lane.on m.running ≡ true → h.lane.on m.looping ≡ true → ((k : ℕ) → k < m.free → h1.lane.on k ≡ h.lane.on k) →
+    Masked m.running (h3.lane.on m.running && h3.lane.on m.staying) h3 h4 → (o : Outcome) → LoopEnds x j v tb m.free m.staying h1 h3 o → After x j v tb tb m h h4 o
 leaves x v tb m j h h1 h3 h4 a o l same m4 = go
   where
-    ex : (n : Bool) → Round m.f m.nr false n h1 h3 → Exits m n true n h h4
+    ex : (n : Bool) → Round m.free m.staying false n h1 h3 → Exits m n true n h h4
     ex n r = record {
         going = m4.stop ∙ r.going;
-        runs = m4.itself ∙ ap₂ (λ y z. y && z) (r.others m.rm a.rm_in a.rm_nr ∙ (same m.rm a.rm_in ∙ o)) r.stays;
-        loops = m4.others m.lm (λ z. a.rm_lm (sym z)) ∙ (r.others m.lm a.lm_in a.lm_nr ∙ (same m.lm a.lm_in ∙ l));
-        stays = m4.others m.nr (λ z. a.rm_nr (sym z)) ∙ r.stays;
+        runs = m4.itself ∙ ap₂ (λ y z. y && z) (r.others m.running a.running_in a.running_staying ∙ (same m.running a.running_in ∙ o)) r.stays;
+        loops = m4.others m.looping (λ z. a.running_looping (sym z)) ∙ (r.others m.looping a.looping_in a.looping_staying ∙ (same m.looping a.looping_in ∙ l));
+        stays = m4.others m.staying (λ z. a.running_staying (sym z)) ∙ r.stays;
         others = λ k lk y z u. m4.others k y ∙ (r.others k lk u ∙ same k lk) }
-    go : (o' : Outcome) → LoopEnds x j v tb m.f m.nr h1 h3 o' → After x j v tb tb m h h4 o'
+    go : (o' : Outcome) → LoopEnds x j v tb m.free m.staying h1 h3 o' → After x j v tb tb m h h4 o'
     go (fell s) q = (ex true q.0, holds_same tb s h3 h4 m4.regs m4.world q.1)
     go (broke s) q = absurd q
     go (continued s) q = absurd q
     go (returned dt w) q = (ex false q.0, subst (Has x j v.ty dt) (sym (m4.regs v.reg)) q.1, m4.world ∙ q.2)
     go (stopped z w) q = record { stop = m4.stop ∙ q.stop; world = m4.world ∙ q.world }
 
-leaves_off : (m : Guards) (dk : ℕ) (h h3 h4 : Share) → AreApart m → h.lane.on m.rm ≡ false → Keeps dk m.f h.world h h3 → Masked m.rm (h3.lane.on m.rm && h3.lane.on m.nr) h3 h4 → Keeps dk m.f h.world h h4
-leaves_off m dk h h3 h4 a o k m4 = record { going = m4.stop ∙ k.going; regs = λ i li. m4.regs i ∙ k.regs i li; masks = λ i li. at i li (i == m.rm) refl; world = m4.world ∙ k.world }
+leaves_off : (m : Guards) (dk : ℕ) (h h3 h4 : Share) → AreApart m → h.lane.on m.running ≡ false → Keeps dk m.free h.world h h3 → Masked m.running (h3.lane.on m.running && h3.lane.on m.staying) h3 h4 → Keeps dk m.free h.world h h4
+leaves_off m dk h h3 h4 a o k m4 = record { going = m4.stop ∙ k.going; regs = λ i li. m4.regs i ∙ k.regs i li; masks = λ i li. at i li (i == m.running) refl; world = m4.world ∙ k.world }
   where
-    at : (i : ℕ) → i < m.f → (b : Bool) → (i == m.rm) ≡ b → h4.lane.on i ≡ h.lane.on i
-    at i li true z = subst (λ y. h4.lane.on y ≡ h.lane.on y) (sym (same_number i m.rm z)) (m4.itself ∙ (ap (λ y. y && h3.lane.on m.nr) (k.masks m.rm a.rm_in ∙ o) ∙ sym o))
-    at i li false z = m4.others i (λ y. absurd (true≢false (sym (same_yes m.rm) ∙ (ap (λ g. g == m.rm) (sym y) ∙ z)))) ∙ k.masks i li
+    at : (i : ℕ) → i < m.free → (b : Bool) → (i == m.running) ≡ b → h4.lane.on i ≡ h.lane.on i
+    at i li true z = subst (λ y. h4.lane.on y ≡ h.lane.on y) (sym (same_number i m.running z)) (m4.itself ∙ (ap (λ y. y && h3.lane.on m.staying) (k.masks m.running a.running_in ∙ o) ∙ sym o))
+    at i li false z = m4.others i (λ y. absurd (true≢false (sym (same_yes m.running) ∙ (ap (λ g. g == m.running) (sym y) ∙ z)))) ∙ k.masks i li
 
 -- `do`: h1 behind the copy of the running mask, h3 behind the loop
-pub follows_do : (x : Place) (v : Ret) (tb : Table) (e : Evaluation) (effect : Effect) (T : ℕ) (m : Guards) (j : ℕ) (h h1 h3 h4 : Share) → AreApart m →
-    Masks m.f (λ q. q.lane.on m.rm && q.lane.on m.rm) j h h1 → Repeats m.f (Turn x v tb e effect m.f m.nr) T j h1 h3 → Masks m.rm (λ q. q.lane.on m.rm && q.lane.on m.nr) j h3 h4 →
+pub follows_do : (x : Place) (v : ReturnPlace) (tb : Table) (e : Evaluation) (effect : Effect) (T : ℕ) (m : Guards) (j : ℕ) (h h1 h3 h4 : Share) → AreApart m →
+    Masks m.free (λ q. q.lane.on m.running && q.lane.on m.running) j h h1 → Repeats m.free (Turn x v tb e effect m.free m.staying) T j h1 h3 → Masks m.running (λ q. q.lane.on m.running && q.lane.on m.staying) j h3 h4 →
     Follows x v tb tb (turns T e effect) m j h h4
 follows_do x v tb e effect T m j h h1 h3 h4 a e1 r e4 = record {
-    gone = λ z s. let k : Stays z h1.world h3 = loop_gone x v tb e effect m.f m.nr T j h1 h3 r z (m1.stop ∙ s) in record { stop = m4.stop ∙ k.stop; world = m4.world ∙ (k.world ∙ m1.world) };
+    gone = λ z s. let k : Stays z h1.world h3 = loop_gone x v tb e effect m.free m.staying T j h1 h3 r z (m1.stop ∙ s) in record { stop = m4.stop ∙ k.stop; world = m4.world ∙ (k.world ∙ m1.world) };
     off = λ n o dk. leaves_off m dk h h3 h4 a o (off3 n o dk) m4;
     runs = λ s n o l q hold. leaves x v tb m j h h1 h3 h4 a o l (λ k lk. m1.others k (λ z. absurd (omega (arith, z, lk)))) m4 (turns T e effect s)
-        (loop_runs x v tb e effect m.f m.nr a.nr_in T j s h1 h3 r (m1.stop ∙ n) (m1.itself ∙ (and_self (h.lane.on m.rm) ∙ o)) (m1.others m.nr below ∙ q) (holds_same tb s h h1 m1.regs m1.world hold)) }
+        (loop_runs x v tb e effect m.free m.staying a.staying_in T j s h1 h3 r (m1.stop ∙ n) (m1.itself ∙ (and_self (h.lane.on m.running) ∙ o)) (m1.others m.staying below ∙ q) (holds_same tb s h h1 m1.regs m1.world hold)) }
   where
-    m1 : Masked m.f (h.lane.on m.rm && h.lane.on m.rm) h h1
-    m1 = masked_by m.f j (λ q. q.lane.on m.rm && q.lane.on m.rm) h h1 e1
-    m4 : Masked m.rm (h3.lane.on m.rm && h3.lane.on m.nr) h3 h4
-    m4 = masked_by m.rm j (λ q. q.lane.on m.rm && q.lane.on m.nr) h3 h4 e4
-    nr_in : m.nr < m.f
-    nr_in = a.nr_in
-    below : m.nr ≢ m.f
-    below z = absurd (omega (arith, z, nr_in))
-    off3 : h.lane.stop ≡ None → h.lane.on m.rm ≡ false → (dk : ℕ) → Keeps dk m.f h.world h h3
-    off3 n o dk = let k : Keeps dk (m.f + 1) h1.world h1 h3 = loop_off x v tb e effect m.f m.nr T j h1 h3 r (m1.stop ∙ n) (m1.itself ∙ (and_self (h.lane.on m.rm) ∙ o)) dk in
-        keeps_then dk m.f dk (m.f + 1) h.world h.world h h1 h3 (omega arith) (omega arith) (masked_keeps m.f dk m.f _ h.world h h1 (omega arith) n refl m1)
+    m1 : Masked m.free (h.lane.on m.running && h.lane.on m.running) h h1
+    m1 = masked_by m.free j (λ q. q.lane.on m.running && q.lane.on m.running) h h1 e1
+    m4 : Masked m.running (h3.lane.on m.running && h3.lane.on m.staying) h3 h4
+    m4 = masked_by m.running j (λ q. q.lane.on m.running && q.lane.on m.staying) h3 h4 e4
+    staying_in : m.staying < m.free
+    staying_in = a.staying_in
+    below : m.staying ≢ m.free
+    below z = absurd (omega (arith, z, staying_in))
+    off3 : h.lane.stop ≡ None → h.lane.on m.running ≡ false → (dk : ℕ) → Keeps dk m.free h.world h h3
+    off3 n o dk = let k : Keeps dk (m.free + 1) h1.world h1 h3 = loop_off x v tb e effect m.free m.staying T j h1 h3 r (m1.stop ∙ n) (m1.itself ∙ (and_self (h.lane.on m.running) ∙ o)) dk in
+        keeps_then dk m.free dk (m.free + 1) h.world h.world h h1 h3 (omega arith) (omega arith) (masked_keeps m.free dk m.free _ h.world h h1 (omega arith) n refl m1)
         (record { going = k.going; regs = k.regs; masks = k.masks; world = k.world ∙ m1.world })
 
 -- `while`: h2 behind the first condition
-pub follows_while : (x : Place) (v : Ret) (tb : Table) (e : Evaluation) (effect : Effect) (T : ℕ) (m : Guards) (j : ℕ) (h h1 h2 h3 h4 : Share) → AreApart m →
-    Masks m.f (λ q. q.lane.on m.rm && q.lane.on m.rm) j h h1 → TestsOn x tb e m.f m.nr j h1 h2 → Repeats m.f (Turn x v tb e effect m.f m.nr) T j h2 h3 → Masks m.rm (λ q. q.lane.on m.rm && q.lane.on m.nr) j h3 h4 →
+pub follows_while : (x : Place) (v : ReturnPlace) (tb : Table) (e : Evaluation) (effect : Effect) (T : ℕ) (m : Guards) (j : ℕ) (h h1 h2 h3 h4 : Share) → AreApart m →
+    Masks m.free (λ q. q.lane.on m.running && q.lane.on m.running) j h h1 → IsTested x tb e m.free m.staying j h1 h2 → Repeats m.free (Turn x v tb e effect m.free m.staying) T j h2 h3 → Masks m.running (λ q. q.lane.on m.running && q.lane.on m.staying) j h3 h4 →
     Follows x v tb tb (repeat T e effect) m j h h4
 follows_while x v tb e effect T m j h h1 h2 h3 h4 a e1 t r e4 = record {
-    gone = λ z s. let k : Stays z h1.world h2 = t.gone z (m1.stop ∙ s) in let q : Stays z h2.world h3 = loop_gone x v tb e effect m.f m.nr T j h2 h3 r z k.stop in
+    gone = λ z s. let k : Stays z h1.world h2 = t.gone z (m1.stop ∙ s) in let q : Stays z h2.world h3 = loop_gone x v tb e effect m.free m.staying T j h2 h3 r z k.stop in
         record { stop = m4.stop ∙ q.stop; world = m4.world ∙ (q.world ∙ (k.world ∙ m1.world)) };
     off = λ n o dk. leaves_off m dk h h3 h4 a o (off3 n o dk) m4;
     runs = λ s n o l q hold. leaves x v tb m j h h1 h3 h4 a o l (λ k lk. m1.others k (λ z. absurd (omega (arith, z, lk)))) m4 (repeat T e effect s)
-        (test s (e s.variables s.world) (t.runs s (m1.stop ∙ n) (m1.itself ∙ (and_self (h.lane.on m.rm) ∙ o)) (m1.others m.nr below ∙ q) (holds_same tb s h h1 m1.regs m1.world hold))) }
+        (test s (e s.variables s.world) (t.runs s (m1.stop ∙ n) (m1.itself ∙ (and_self (h.lane.on m.running) ∙ o)) (m1.others m.staying below ∙ q) (holds_same tb s h h1 m1.regs m1.world hold))) }
   where
-    m1 : Masked m.f (h.lane.on m.rm && h.lane.on m.rm) h h1
-    m1 = masked_by m.f j (λ q. q.lane.on m.rm && q.lane.on m.rm) h h1 e1
-    m4 : Masked m.rm (h3.lane.on m.rm && h3.lane.on m.nr) h3 h4
-    m4 = masked_by m.rm j (λ q. q.lane.on m.rm && q.lane.on m.nr) h3 h4 e4
-    nr_in : m.nr < m.f
-    nr_in = a.nr_in
-    below : m.nr ≢ m.f
-    below z = absurd (omega (arith, z, nr_in))
-    off3 : h.lane.stop ≡ None → h.lane.on m.rm ≡ false → (dk : ℕ) → Keeps dk m.f h.world h h3
+    m1 : Masked m.free (h.lane.on m.running && h.lane.on m.running) h h1
+    m1 = masked_by m.free j (λ q. q.lane.on m.running && q.lane.on m.running) h h1 e1
+    m4 : Masked m.running (h3.lane.on m.running && h3.lane.on m.staying) h3 h4
+    m4 = masked_by m.running j (λ q. q.lane.on m.running && q.lane.on m.staying) h3 h4 e4
+    staying_in : m.staying < m.free
+    staying_in = a.staying_in
+    below : m.staying ≢ m.free
+    below z = absurd (omega (arith, z, staying_in))
+    off3 : h.lane.stop ≡ None → h.lane.on m.running ≡ false → (dk : ℕ) → Keeps dk m.free h.world h h3
     off3 n o dk =
-        let k2 : Keeps dk (m.f + 1) h1.world h1 h2 = t.off (m1.stop ∙ n) (m1.itself ∙ (and_self (h.lane.on m.rm) ∙ o)) dk in
-        let k : Keeps dk (m.f + 1) h2.world h2 h3 = loop_off x v tb e effect m.f m.nr T j h2 h3 r k2.going (k2.masks m.f (omega arith) ∙ (m1.itself ∙ (and_self (h.lane.on m.rm) ∙ o))) dk in
-        keeps_then dk m.f dk (m.f + 1) h.world h.world h h1 h3 (omega arith) (omega arith) (masked_keeps m.f dk m.f _ h.world h h1 (omega arith) n refl m1)
-        (keeps_then dk (m.f + 1) dk (m.f + 1) h.world h.world h1 h2 h3 (omega arith) (omega arith) (record { going = k2.going; regs = k2.regs; masks = k2.masks; world = k2.world ∙ m1.world })
+        let k2 : Keeps dk (m.free + 1) h1.world h1 h2 = t.off (m1.stop ∙ n) (m1.itself ∙ (and_self (h.lane.on m.running) ∙ o)) dk in
+        let k : Keeps dk (m.free + 1) h2.world h2 h3 = loop_off x v tb e effect m.free m.staying T j h2 h3 r k2.going (k2.masks m.free (omega arith) ∙ (m1.itself ∙ (and_self (h.lane.on m.running) ∙ o))) dk in
+        keeps_then dk m.free dk (m.free + 1) h.world h.world h h1 h3 (omega arith) (omega arith) (masked_keeps m.free dk m.free _ h.world h h1 (omega arith) n refl m1)
+        (keeps_then dk (m.free + 1) dk (m.free + 1) h.world h.world h1 h2 h3 (omega arith) (omega arith) (record { going = k2.going; regs = k2.regs; masks = k2.masks; world = k2.world ∙ m1.world })
             (record { going = k.going; regs = k.regs; masks = k.masks; world = k.world ∙ (k2.world ∙ m1.world) }))
-    ended : (o : Outcome) → Round m.f m.nr true true h1 h2 → LoopEnds x j v tb m.f m.nr h2 h3 o → LoopEnds x j v tb m.f m.nr h1 h3 o
-    ended (fell s') p q = (round_then m.f m.nr false true h1 h2 h3 nr_in p q.0, q.1)
+    ended : (o : Outcome) → Round m.free m.staying true true h1 h2 → LoopEnds x j v tb m.free m.staying h2 h3 o → LoopEnds x j v tb m.free m.staying h1 h3 o
+    ended (fell s') p q = (round_then m.free m.staying false true h1 h2 h3 staying_in p q.0, q.1)
     ended (broke s') p q = q
     ended (continued s') p q = q
-    ended (returned dt w) p q = (round_then m.f m.nr false false h1 h2 h3 nr_in p q.0, q.1, q.2)
+    ended (returned dt w) p q = (round_then m.free m.staying false false h1 h2 h3 staying_in p q.0, q.1, q.2)
     ended (stopped z w) p q = q
-    start : (s : State) (p : Bool) → Round m.f m.nr p true h1 h2 → Holds tb s h2 → LoopEnds x j v tb m.f m.nr h1 h3 (cond p (turns T e effect) fell s)
-    start s true p hold = ended (turns T e effect s) p (loop_runs x v tb e effect m.f m.nr nr_in T j s h2 h3 r p.going p.itself p.stays hold)
-    start s false p hold = let k : (dk : ℕ) → Keeps dk (m.f + 1) h2.world h2 h3 = loop_off x v tb e effect m.f m.nr T j h2 h3 r p.going p.itself in
-        (round_idle m.f m.nr 0 h2.world true h1 h2 h3 nr_in p (k 0), holds_same tb s h2 h3 (λ i. (k (i + 1)).regs i (omega arith)) (k 0).world hold)
-    test : (s : State) (u : Value) → TestEnds x j tb m.f m.nr h1 h2 s u → LoopEnds x j v tb m.f m.nr h1 h3 (on_value u (λ dt w. cond (is_on (number_in dt)) (turns T e effect) fell (at_world s w)))
+    start : (s : State) (p : Bool) → Round m.free m.staying p true h1 h2 → Holds tb s h2 → LoopEnds x j v tb m.free m.staying h1 h3 (cond p (turns T e effect) fell s)
+    start s true p hold = ended (turns T e effect s) p (loop_runs x v tb e effect m.free m.staying staying_in T j s h2 h3 r p.going p.itself p.stays hold)
+    start s false p hold = let k : (dk : ℕ) → Keeps dk (m.free + 1) h2.world h2 h3 = loop_off x v tb e effect m.free m.staying T j h2 h3 r p.going p.itself in
+        (round_idle m.free m.staying 0 h2.world true h1 h2 h3 staying_in p (k 0), holds_same tb s h2 h3 (λ i. (k (i + 1)).regs i (omega arith)) (k 0).world hold)
+    test : (s : State) (u : Value) → TestEnds x j tb m.free m.staying h1 h2 s u → LoopEnds x j v tb m.free m.staying h1 h3 (on_value u (λ dt w. cond (is_on (number_in dt)) (turns T e effect) fell (at_world s w)))
     test s (got dt w) p = start (at_world s w) (is_on (number_in dt)) p.0 p.1
-    test s (halts z w) p = let k : Stays z h2.world h3 = loop_gone x v tb e effect m.f m.nr T j h2 h3 r z p.stop in record { stop = k.stop; world = k.world ∙ p.world }
+    test s (halts z w) p = let k : Stays z h2.world h3 = loop_gone x v tb e effect m.free m.staying T j h2 h3 r z p.stop in record { stop = k.stop; world = k.world ∙ p.world }

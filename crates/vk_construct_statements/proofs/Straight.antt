@@ -1,28 +1,22 @@
 -- Code of statements without loops, in one lane.
-use Rattle.std.proofs.Common.{arith, sym, ◌≡◌, ◌≢◌, ℕ, zero, suc, ◌+◌, ◌<◌, ◌≤◌, ◌==◌, Bool, true, false, cond, not, ◌||◌, ◌&&◌, Option, Some, None, refl, subst, ap, ap₂, ◌∙◌, ◌⊎◌, inl, inr, ℤ, pos, Result, Ok, Err, true≢false}
+use Rattle.std.proofs.Common.{arith, sym, ◌≡◌, ◌≢◌, ℕ, ◌+◌, ◌<◌, ◌==◌, Bool, true, false, cond, None, refl, subst, ap, ap₂, ◌∙◌, Result, Ok, true≢false}
 use Rattle.vk_types.specs.declared.types.Stop.{Stop}
-use Rattle.vk_types.specs.declared.types.Ty.{Ty}
 use Rattle.vk_kinds.specs.declared.heads.CType.{CType}
-use Rattle.vk_kinds.specs.declared.heads.CType.TheVariants.{Void, Int, Ptr}
-use Rattle.vk_numbers.specs.Operators.{is_on}
 use Rattle.vk_meaning.specs.World.{World}
-use Rattle.vk_meaning.specs.Data.{Datum, Value, got, halts, with_value, Action, and_then, then_number, number, number_in, given, as_type}
-use Rattle.vk_meaning.specs.Expressions.{Variables, with_datum}
-use Rattle.vk_meaning.specs.Statements.{State, at_world, with_variable, Evaluation, Outcome, fell, broke, continued, returned, stopped, Effect, on_value, on_fell, then_do, uncontinued, branch, evaluate, assign_variable}
-use Rattle.vk_meaning.specs.Lanes.{datum_of, IsWord}
-use Rattle.vk_object.specs.Lane.{is_live}
-use Rattle.vk_lane.specs.Places.{Share, Place, IsPlace, IsSound, IsFine, reg_type}
-use Rattle.vk_lane.specs.Writes.{Writes, Masks}
-use Rattle.vk_construct.specs.Computes.{Table, IsTable, Holds, Keeps, Has, Gives, Computes, Idles}
+use Rattle.vk_meaning.specs.Data.{Datum, Value, got, halts, as_type}
+use Rattle.vk_meaning.specs.Statements.{State, at_world, with_variable, Evaluation, Outcome, fell, broke, continued, returned, stopped, Effect, on_value, on_fell, then_do, evaluate, assign_variable}
+use Rattle.vk_meaning.specs.Lanes.{datum_of}
+use Rattle.vk_lane.specs.Places.{Share, Place}
+use Rattle.vk_lane.specs.Writes.{Writes}
+use Rattle.vk_construct.specs.Computes.{Table, IsTable, Holds, Keeps, Has, Gives, Computes}
 use Rattle.vk_lane.specs.Pieces.{Stays}
-use Rattle.vk_construct_statements.specs.Follows.{Guards, AreApart, Ret, Exits, After, Follows, pushed, IsFront}
+use Rattle.vk_construct_statements.specs.Follows.{Guards, AreApart, ReturnPlace, Exits, After, Follows, pushed, IsFront}
 use Rattle.vk_lane.proofs.Rules.{same_number, same_yes, same_not}
-use Rattle.vk_construct.proofs.Values.{keeps_same, keeps_then, keeps_less, holds_keeps, live_is, off_is, gone_is, idles_of, Wrote, wrote}
-use Rattle.vk_construct.proofs.Choices.{Masked, masked_by, masked_keeps, tested}
+use Rattle.vk_construct.proofs.Values.{keeps_same, keeps_then, holds_keeps, live_is, off_is, gone_is, Wrote, wrote}
 
-pub exits_keeps : (m : Guards) (d : ℕ) (w : World) (h h' : Share) → AreApart m → h.lane.on m.rm ≡ true → h.lane.on m.lm ≡ true → h.lane.on m.nr ≡ true → Keeps d m.f w h h' → Exits m true true true h h'
+pub exits_keeps : (m : Guards) (d : ℕ) (w : World) (h h' : Share) → AreApart m → h.lane.on m.running ≡ true → h.lane.on m.looping ≡ true → h.lane.on m.staying ≡ true → Keeps d m.free w h h' → Exits m true true true h h'
 exits_keeps m d w h h' a r l n k = record {
-    going = k.going; runs = k.masks m.rm a.rm_in ∙ r; loops = k.masks m.lm a.lm_in ∙ l; stays = k.masks m.nr a.nr_in ∙ n; others = λ q lq x y z. k.masks q lq }
+    going = k.going; runs = k.masks m.running a.running_in ∙ r; loops = k.masks m.looping a.looping_in ∙ l; stays = k.masks m.staying a.staying_in ∙ n; others = λ q lq x y z. k.masks q lq }
 
 pub holds_same : (tb : Table) (s : State) (h h' : Share) → ((r : ℕ) → h'.lane.reg r ≡ h.lane.reg r) → h'.world ≡ h.world → Holds tb s h → Holds tb s h'
 holds_same tb s h h' regs w a = record { variables = λ n b. a.variables n b ∙ ap (datum_of (tb.ty n)) (sym (regs (tb.reg n))); world = a.world ∙ sym w }
@@ -45,31 +39,31 @@ front_pushed tb r t = record {
 
 -- ---- no code
 
-pub follows_nothing : (x : Place) (v : Ret) (tb : Table) (m : Guards) (j : ℕ) (h : Share) → AreApart m → Follows x v tb tb fell m j h h
+pub follows_nothing : (x : Place) (v : ReturnPlace) (tb : Table) (m : Guards) (j : ℕ) (h : Share) → AreApart m → Follows x v tb tb fell m j h h
 follows_nothing x v tb m j h a = record {
-    gone = λ z s. record { stop = s; world = refl }; off = λ n o dk. keeps_same dk m.f h.world h n refl;
-    runs = λ s n r l q hold. (exits_keeps m 0 h.world h h a r l q (keeps_same 0 m.f h.world h n refl), hold) }
+    gone = λ z s. record { stop = s; world = refl }; off = λ n o dk. keeps_same dk m.free h.world h n refl;
+    runs = λ s n r l q hold. (exits_keeps m 0 h.world h h a r l q (keeps_same 0 m.free h.world h n refl), hold) }
 
 -- ---- an expression alone
 
-pub follows_value : (x : Place) (v : Ret) (tb : Table) (e : Evaluation) (t : CType) (r d : ℕ) (m : Guards) (j : ℕ) (h h' : Share) → AreApart m → IsTable x tb d → Computes x tb e t r m.rm d m.f j h h' →
+pub follows_value : (x : Place) (v : ReturnPlace) (tb : Table) (e : Evaluation) (t : CType) (r d : ℕ) (m : Guards) (j : ℕ) (h h' : Share) → AreApart m → IsTable x tb d → Computes x tb e t r m.running d m.free j h h' →
     Follows x v tb tb (evaluate e) m j h h'
 follows_value x v tb e t r d m j h h' a it c = record {
     gone = c.gone; off = c.off;
     runs = λ s n o l q hold. go s o l q hold (e s.variables s.world) (c.runs s n o hold) }
   where
-    go : (s : State) → h.lane.on m.rm ≡ true → h.lane.on m.lm ≡ true → h.lane.on m.nr ≡ true → Holds tb s h → (u : Value) → Gives x j t r d m.f h h' u → After x j v tb tb m h h' (on_value u (λ dt w. fell (at_world s w)))
-    go s o l q hold (got dt w) g = (exits_keeps m d w h h' a o l q g.0, holds_keeps x tb d m.f d w s h h' it (omega arith) g.0 hold)
+    go : (s : State) → h.lane.on m.running ≡ true → h.lane.on m.looping ≡ true → h.lane.on m.staying ≡ true → Holds tb s h → (u : Value) → Gives x j t r d m.free h h' u → After x j v tb tb m h h' (on_value u (λ dt w. fell (at_world s w)))
+    go s o l q hold (got dt w) g = (exits_keeps m d w h h' a o l q g.0, holds_keeps x tb d m.free d w s h h' it (omega arith) g.0 hold)
     go s o l q hold (halts z w) g = g
 
 -- ---- one behind another
 
-pub follows_then : (x : Place) (v : Ret) (tb tb' tb'' : Table) (one two : Effect) (m : Guards) (j : ℕ) (h mid h' : Share) → AreApart m → IsFront tb tb' → Follows x v tb tb' one m j h mid → Follows x v tb' tb'' two m j mid h' →
+pub follows_then : (x : Place) (v : ReturnPlace) (tb tb' tb'' : Table) (one two : Effect) (m : Guards) (j : ℕ) (h mid h' : Share) → AreApart m → IsFront tb tb' → Follows x v tb tb' one m j h mid → Follows x v tb' tb'' two m j mid h' →
     Follows x v tb tb'' (then_do one two) m j h h'
 follows_then x v tb tb' tb'' one two m j h mid h' a fr c e = record {
     gone = λ z s. let k : Stays z h.world mid = c.gone z s in let q : Stays z mid.world h' = e.gone z k.stop in record { stop = q.stop; world = q.world ∙ k.world };
-    off = λ n o dk. let k : Keeps dk m.f h.world h mid = c.off n o dk in let q : Keeps dk m.f mid.world mid h' = e.off k.going (k.masks m.rm a.rm_in ∙ o) dk in
-        keeps_then dk m.f dk m.f h.world h.world h mid h' (omega arith) (omega arith) k (record { going = q.going; regs = q.regs; masks = q.masks; world = q.world ∙ k.world });
+    off = λ n o dk. let k : Keeps dk m.free h.world h mid = c.off n o dk in let q : Keeps dk m.free mid.world mid h' = e.off k.going (k.masks m.running a.running_in ∙ o) dk in
+        keeps_then dk m.free dk m.free h.world h.world h mid h' (omega arith) (omega arith) k (record { going = q.going; regs = q.regs; masks = q.masks; world = q.world ∙ k.world });
     runs = λ s n r l q hold. first (one s) (c.runs s n r l q hold) }
   where
     again : (r l n : Bool) → Exits m true true true h mid → Exits m r l n mid h' → Exits m r l n h h'
@@ -81,9 +75,9 @@ follows_then x v tb tb' tb'' one two m j h mid h' a fr c e = record {
     later (returned dt w) p q = (again false true false p q.0, q.1, q.2)
     later (stopped z w) p q = q
     -- the second one is idle
-    idle : (l n : Bool) → Exits m false l n h mid → Exits m false l n h h' × Keeps (v.reg + 1) m.f mid.world mid h'
-    idle l n p = let k : Keeps (v.reg + 1) m.f mid.world mid h' = e.off p.going p.runs (v.reg + 1) in
-        (record { going = k.going; runs = k.masks m.rm a.rm_in ∙ p.runs; loops = k.masks m.lm a.lm_in ∙ p.loops; stays = k.masks m.nr a.nr_in ∙ p.stays; others = λ q lq y z w. k.masks q lq ∙ p.others q lq y z w }, k)
+    idle : (l n : Bool) → Exits m false l n h mid → Exits m false l n h h' × Keeps (v.reg + 1) m.free mid.world mid h'
+    idle l n p = let k : Keeps (v.reg + 1) m.free mid.world mid h' = e.off p.going p.runs (v.reg + 1) in
+        (record { going = k.going; runs = k.masks m.running a.running_in ∙ p.runs; loops = k.masks m.looping a.looping_in ∙ p.loops; stays = k.masks m.staying a.staying_in ∙ p.stays; others = λ q lq y z w. k.masks q lq ∙ p.others q lq y z w }, k)
     idle_holds : (l n : Bool) (s : State) → Exits m false l n h mid → Holds tb s mid → Holds tb s h'
     idle_holds l n s p hold = holds_same tb s mid h' (λ r. (e.off p.going p.runs (r + 1)).regs r (omega arith)) (e.off p.going p.runs 0).world hold
     first : (o : Outcome) → After x j v tb tb' m h mid o → After x j v tb tb'' m h h' (on_fell o two)
@@ -94,7 +88,7 @@ follows_then x v tb tb' tb'' one two m j h mid h' a fr c e = record {
     first (stopped z w) p = let q : Stays z mid.world h' = e.gone z p.stop in record { stop = q.stop; world = q.world ∙ p.world }
 
 -- what is declared inside is not seen behind
-pub follows_block : (x : Place) (v : Ret) (tb tb' : Table) (effect : Effect) (m : Guards) (j : ℕ) (h h' : Share) → IsFront tb tb' → Follows x v tb tb' effect m j h h' → Follows x v tb tb effect m j h h'
+pub follows_block : (x : Place) (v : ReturnPlace) (tb tb' : Table) (effect : Effect) (m : Guards) (j : ℕ) (h h' : Share) → IsFront tb tb' → Follows x v tb tb' effect m j h h' → Follows x v tb tb effect m j h h'
 follows_block x v tb tb' effect m j h h' fr c = record { gone = c.gone; off = c.off; runs = λ s n r l q hold. go (effect s) (c.runs s n r l q hold) }
   where
     go : (o : Outcome) → After x j v tb tb' m h h' o → After x j v tb tb m h h' o
@@ -115,23 +109,23 @@ holds_assigned x tb d s k dt mid h' it lk hold others w e = record { variables =
     at n l true q = subst (λ i. dt ≡ datum_of (tb.ty i) (h'.lane.reg (tb.reg i))) (sym (same_number n k q)) e
     at n l false q = hold.variables n l ∙ ap (datum_of (tb.ty n)) (sym (others (tb.reg n) (it.apart n k l lk (λ z. absurd (true≢false (sym (same_yes k) ∙ (ap (λ i. i == k) (sym z) ∙ q)))))))
 
-pub follows_assign : (x : Place) (v : Ret) (tb : Table) (e : Evaluation) (t : CType) (r d k : ℕ) (res : ℕ → Share → Result ℕ Stop) (m : Guards) (j : ℕ) (h mid h' : Share) → AreApart m → IsTable x tb d → k < tb.count →
-    Computes x tb e t r m.rm d m.f j h mid → Writes m.rm (tb.reg k) res j mid h' →
+pub follows_assign : (x : Place) (v : ReturnPlace) (tb : Table) (e : Evaluation) (t : CType) (r d k : ℕ) (res : ℕ → Share → Result ℕ Stop) (m : Guards) (j : ℕ) (h mid h' : Share) → AreApart m → IsTable x tb d → k < tb.count →
+    Computes x tb e t r m.running d m.free j h mid → Writes m.running (tb.reg k) res j mid h' →
     ((dt : Datum) → Has x j t dt (mid.lane.reg r) → (w : ℕ) × (res j mid ≡ Ok w) × (as_type (tb.ty k) dt ≡ datum_of (tb.ty k) w)) →
     Follows x v tb tb (assign_variable (record { number = k; ctype = tb.ty k }) e) m j h h'
 follows_assign x v tb e t r d k res m j h mid h' a it lk c eq ans = record {
-    gone = λ z s. let q : Stays z h.world mid = c.gone z s in subst (Stays z h.world) (sym (wr.idle (gone_is m.rm mid.lane z q.stop))) q;
-    off = λ n o dk. let q : Keeps dk m.f h.world h mid = c.off n o dk in subst (Keeps dk m.f h.world h) (sym (wr.idle (off_is m.rm mid.lane (q.masks m.rm a.rm_in ∙ o)))) q;
+    gone = λ z s. let q : Stays z h.world mid = c.gone z s in subst (Stays z h.world) (sym (wr.idle (gone_is m.running mid.lane z q.stop))) q;
+    off = λ n o dk. let q : Keeps dk m.free h.world h mid = c.off n o dk in subst (Keeps dk m.free h.world h) (sym (wr.idle (off_is m.running mid.lane (q.masks m.running a.running_in ∙ o)))) q;
     runs = λ s n o l q hold. go s o l q hold (e s.variables s.world) (c.runs s n o hold) }
   where
-    wr : Wrote m.rm (tb.reg k) (res j mid) mid h'
-    wr = wrote m.rm (tb.reg k) (res j mid) mid h' eq
-    go : (s : State) → h.lane.on m.rm ≡ true → h.lane.on m.lm ≡ true → h.lane.on m.nr ≡ true → Holds tb s h → (u : Value) → Gives x j t r d m.f h mid u →
+    wr : Wrote m.running (tb.reg k) (res j mid) mid h'
+    wr = wrote m.running (tb.reg k) (res j mid) mid h' eq
+    go : (s : State) → h.lane.on m.running ≡ true → h.lane.on m.looping ≡ true → h.lane.on m.staying ≡ true → Holds tb s h → (u : Value) → Gives x j t r d m.free h mid u →
         After x j v tb tb m h h' (on_value u (λ dt w. fell (with_variable (at_world s w) k (as_type (tb.ty k) dt))))
-    go s o l q hold (halts z w) g = subst (Stays z w) (sym (wr.idle (gone_is m.rm mid.lane z g.stop))) g
+    go s o l q hold (halts z w) g = subst (Stays z w) (sym (wr.idle (gone_is m.running mid.lane z g.stop))) g
     go s o l q hold (got dt w) g = (record {
-        going = got_.1 ∙ g.0.going; runs = wr.masks m.rm ∙ ex.runs; loops = wr.masks m.lm ∙ ex.loops; stays = wr.masks m.nr ∙ ex.stays; others = λ i li y z u. wr.masks i ∙ ex.others i li y z u },
-        holds_assigned x tb d (at_world s w) k (as_type (tb.ty k) dt) mid h' it lk (holds_keeps x tb d m.f d w s h mid it (omega arith) g.0 hold) wr.others wr.world
+        going = got_.1 ∙ g.0.going; runs = wr.masks m.running ∙ ex.runs; loops = wr.masks m.looping ∙ ex.loops; stays = wr.masks m.staying ∙ ex.stays; others = λ i li y z u. wr.masks i ∙ ex.others i li y z u },
+        holds_assigned x tb d (at_world s w) k (as_type (tb.ty k) dt) mid h' it lk (holds_keeps x tb d m.free d w s h mid it (omega arith) g.0 hold) wr.others wr.world
             (an.2 ∙ ap (datum_of (tb.ty k)) (sym got_.0)))
       where
         ex : Exits m true true true h mid
@@ -139,22 +133,22 @@ follows_assign x v tb e t r d k res m j h mid h' a it lk c eq ans = record {
         an : (u : ℕ) × (res j mid ≡ Ok u) × (as_type (tb.ty k) dt ≡ datum_of (tb.ty k) u)
         an = ans dt g.1
         got_ : (h'.lane.reg (tb.reg k) ≡ an.0) × (h'.lane.stop ≡ mid.lane.stop)
-        got_ = wr.value (live_is m.rm mid.lane ex.runs g.0.going) an.0 an.1
+        got_ = wr.value (live_is m.running mid.lane ex.runs g.0.going) an.0 an.1
 
 -- a variable that is declared is 0 at first
-pub follows_declared : (x : Place) (v : Ret) (tb : Table) (d r w : ℕ) (t : CType) (dt : Datum) (m : Guards) (j : ℕ) (h h' : Share) → AreApart m → ((k : ℕ) → k < tb.count → tb.reg k ≢ r) →
-    Writes m.rm r (λ i q. Ok w) j h h' → dt ≡ datum_of t w → Follows x v tb (pushed tb r t) (λ s. fell (with_variable s tb.count dt)) m j h h'
+pub follows_declared : (x : Place) (v : ReturnPlace) (tb : Table) (d r w : ℕ) (t : CType) (dt : Datum) (m : Guards) (j : ℕ) (h h' : Share) → AreApart m → ((k : ℕ) → k < tb.count → tb.reg k ≢ r) →
+    Writes m.running r (λ i q. Ok w) j h h' → dt ≡ datum_of t w → Follows x v tb (pushed tb r t) (λ s. fell (with_variable s tb.count dt)) m j h h'
 follows_declared x v tb d r w t dt m j h h' a fresh eq e = record {
-    gone = λ z s. subst (Stays z h.world) (sym (wr.idle (gone_is m.rm h.lane z s))) (record { stop = s; world = refl });
-    off = λ n o dk. subst (Keeps dk m.f h.world h) (sym (wr.idle (off_is m.rm h.lane o))) (keeps_same dk m.f h.world h n refl);
-    runs = λ s n o l q hold. (record { going = (got_ n o).1 ∙ n; runs = wr.masks m.rm ∙ o; loops = wr.masks m.lm ∙ l; stays = wr.masks m.nr ∙ q; others = λ i li y z u. wr.masks i },
+    gone = λ z s. subst (Stays z h.world) (sym (wr.idle (gone_is m.running h.lane z s))) (record { stop = s; world = refl });
+    off = λ n o dk. subst (Keeps dk m.free h.world h) (sym (wr.idle (off_is m.running h.lane o))) (keeps_same dk m.free h.world h n refl);
+    runs = λ s n o l q hold. (record { going = (got_ n o).1 ∙ n; runs = wr.masks m.running ∙ o; loops = wr.masks m.looping ∙ l; stays = wr.masks m.staying ∙ q; others = λ i li y z u. wr.masks i },
         record { variables = λ k lk. at s n o hold k lk (k == tb.count) refl; world = hold.world ∙ sym wr.world }) }
   where
-    wr : Wrote m.rm r (Ok w) h h'
-    wr = wrote m.rm r (Ok w) h h' eq
-    got_ : h.lane.stop ≡ None → h.lane.on m.rm ≡ true → (h'.lane.reg r ≡ w) × (h'.lane.stop ≡ h.lane.stop)
-    got_ n o = wr.value (live_is m.rm h.lane o n) w refl
-    at : (s : State) → h.lane.stop ≡ None → h.lane.on m.rm ≡ true → Holds tb s h → (k : ℕ) → k < tb.count + 1 → (b : Bool) → (k == tb.count) ≡ b →
+    wr : Wrote m.running r (Ok w) h h'
+    wr = wrote m.running r (Ok w) h h' eq
+    got_ : h.lane.stop ≡ None → h.lane.on m.running ≡ true → (h'.lane.reg r ≡ w) × (h'.lane.stop ≡ h.lane.stop)
+    got_ n o = wr.value (live_is m.running h.lane o n) w refl
+    at : (s : State) → h.lane.stop ≡ None → h.lane.on m.running ≡ true → Holds tb s h → (k : ℕ) → k < tb.count + 1 → (b : Bool) → (k == tb.count) ≡ b →
         cond b dt (s.variables k) ≡ datum_of (cond b t (tb.ty k)) (h'.lane.reg (cond b r (tb.reg k)))
     at s n o hold k lk true q = e ∙ ap (datum_of t) (sym (got_ n o).0)
     at s n o hold k lk false q = let lt : k < tb.count = small k lk q in hold.variables k lt ∙ ap (datum_of (tb.ty k)) (sym (wr.others (tb.reg k) (fresh k lt)))

@@ -1,10 +1,9 @@
 -- Code of a statement, in one lane.
-use Rattle.std.specs.Prelude.{◌≡◌, ◌≢◌, ℕ, ◌+◌, ◌<◌, ◌==◌, Bool, true, false, cond, Option, Some, None}
+use Rattle.std.specs.Prelude.{◌≡◌, ◌≢◌, ℕ, ◌+◌, ◌<◌, ◌==◌, Bool, true, false, cond, Some, None}
 use Rattle.vk_types.specs.declared.types.Stop.{Stop}
 use Rattle.vk_kinds.specs.declared.heads.CType.{CType}
 use Rattle.vk_numbers.specs.Operators.{is_on}
-use Rattle.vk_meaning.specs.World.{World}
-use Rattle.vk_meaning.specs.Data.{Datum, number_in, Value, got, halts}
+use Rattle.vk_meaning.specs.Data.{number_in, Value, got, halts}
 use Rattle.vk_meaning.specs.Statements.{State, at_world, Evaluation, Outcome, fell, broke, continued, returned, stopped, Effect}
 use Rattle.vk_lane.specs.Places.{Share, Place}
 use Rattle.vk_construct.specs.Computes.{Table, Holds, Keeps, Has}
@@ -12,44 +11,44 @@ use Rattle.vk_lane.specs.Pieces.{Stays}
 
 -- the mask of the lanes that run, that of the loop, that of the lanes that have not returned, and the first free one
 pub record Guards : Type 0 where
-  pub rm : ℕ
-  pub lm : ℕ
-  pub nr : ℕ
-  pub f : ℕ
+  pub running : ℕ
+  pub looping : ℕ
+  pub staying : ℕ
+  pub free : ℕ
 
 pub record AreApart (m : Guards) : Type 0 where
-  pub rm_in : m.rm < m.f
-  pub lm_in : m.lm < m.f
-  pub nr_in : m.nr < m.f
-  pub rm_lm : m.rm ≢ m.lm
-  pub rm_nr : m.rm ≢ m.nr
-  pub lm_nr : m.lm ≢ m.nr
+  pub running_in : m.running < m.free
+  pub looping_in : m.looping < m.free
+  pub staying_in : m.staying < m.free
+  pub running_looping : m.running ≢ m.looping
+  pub running_staying : m.running ≢ m.staying
+  pub looping_staying : m.looping ≢ m.staying
 
 -- where the result goes
-pub record Ret : Type 0 where
+pub record ReturnPlace : Type 0 where
   pub reg : ℕ
   pub ty : CType
 
 -- the lane goes on, is in the three masks so, and in each other one below the first free one as before
 pub record Exits (m : Guards) (r l n : Bool) (h h' : Share) : Type 0 where
   pub going : h'.lane.stop ≡ None
-  pub runs : h'.lane.on m.rm ≡ r
-  pub loops : h'.lane.on m.lm ≡ l
-  pub stays : h'.lane.on m.nr ≡ n
-  pub others : (k : ℕ) → k < m.f → k ≢ m.rm → k ≢ m.lm → k ≢ m.nr → h'.lane.on k ≡ h.lane.on k
+  pub runs : h'.lane.on m.running ≡ r
+  pub loops : h'.lane.on m.looping ≡ l
+  pub stays : h'.lane.on m.staying ≡ n
+  pub others : (k : ℕ) → k < m.free → k ≢ m.running → k ≢ m.looping → k ≢ m.staying → h'.lane.on k ≡ h.lane.on k
 
 -- the table behind a statement has more variables, where it declares some
-abbrev pub After : Place → ℕ → Ret → (tb tb' : Table) → Guards → (h h' : Share) → Outcome → Type 0
+abbrev pub After : Place → ℕ → ReturnPlace → (tb tb' : Table) → Guards → (h h' : Share) → Outcome → Type 0
 After x j v tb tb' m h h' (fell s) = Exits m true true true h h' × Holds tb' s h'
 After x j v tb tb' m h h' (broke s) = Exits m false false true h h' × Holds tb s h'
 After x j v tb tb' m h h' (continued s) = Exits m false true true h h' × Holds tb s h'
 After x j v tb tb' m h h' (returned dt w) = Exits m false true false h h' × Has x j v.ty dt (h'.lane.reg v.reg) × (h'.world ≡ w)
 After x j v tb tb' m h h' (stopped z w) = Stays z w h'
 
-pub record Follows (x : Place) (v : Ret) (tb tb' : Table) (effect : Effect) (m : Guards) (j : ℕ) (h h' : Share) : Type 0 where
+pub record Follows (x : Place) (v : ReturnPlace) (tb tb' : Table) (effect : Effect) (m : Guards) (j : ℕ) (h h' : Share) : Type 0 where
   pub gone : (z : Stop) → h.lane.stop ≡ Some z → Stays z h.world h'
-  pub off : h.lane.stop ≡ None → h.lane.on m.rm ≡ false → (dk : ℕ) → Keeps dk m.f h.world h h'
-  pub runs : (s : State) → h.lane.stop ≡ None → h.lane.on m.rm ≡ true → h.lane.on m.lm ≡ true → h.lane.on m.nr ≡ true → Holds tb s h → After x j v tb tb' m h h' (effect s)
+  pub off : h.lane.stop ≡ None → h.lane.on m.running ≡ false → (dk : ℕ) → Keeps dk m.free h.world h h'
+  pub runs : (s : State) → h.lane.stop ≡ None → h.lane.on m.running ≡ true → h.lane.on m.looping ≡ true → h.lane.on m.staying ≡ true → Holds tb s h → After x j v tb tb' m h h' (effect s)
 
 -- one more variable
 abbrev pub pushed : Table → ℕ → CType → Table
@@ -63,10 +62,10 @@ pub record IsFront (tb tb' : Table) : Type 0 where
 
 -- the masks of a loop's body: the loop's mask is the first free one
 abbrev pub inner : ℕ → ℕ → Guards
-inner f nr = record { rm = f + 1; lm = f; nr = nr; f = f + 2 }
+inner f nr = record { running = f + 1; looping = f; staying = nr; free = f + 2 }
 
 -- a turn's work, from the loop's mask f on
-pub record Works (x : Place) (v : Ret) (tb : Table) (effect : Effect) (f nr : ℕ) (j : ℕ) (h h' : Share) : Type 0 where
+pub record Works (x : Place) (v : ReturnPlace) (tb : Table) (effect : Effect) (f nr : ℕ) (j : ℕ) (h h' : Share) : Type 0 where
   pub gone : (z : Stop) → h.lane.stop ≡ Some z → Stays z h.world h'
   pub off : h.lane.stop ≡ None → h.lane.on f ≡ false → (dk : ℕ) → Keeps dk (f + 1) h.world h h'
   pub runs : (s : State) → h.lane.stop ≡ None → h.lane.on f ≡ true → h.lane.on nr ≡ true → Holds tb s h → After x j v tb tb (inner f nr) h h' (effect s)
@@ -79,7 +78,7 @@ pub record Round (f nr : ℕ) (p n : Bool) (h h' : Share) : Type 0 where
   pub others : (k : ℕ) → k < f → k ≢ nr → h'.lane.on k ≡ h.lane.on k
 
 -- how a loop ends
-abbrev pub LoopEnds : Place → ℕ → Ret → Table → (f nr : ℕ) → (h h' : Share) → Outcome → Type 0
+abbrev pub LoopEnds : Place → ℕ → ReturnPlace → Table → (f nr : ℕ) → (h h' : Share) → Outcome → Type 0
 LoopEnds x j v tb f nr h h' (fell s) = Round f nr false true h h' × Holds tb s h'
 LoopEnds x j v tb f nr h h' (broke s) = ⊥
 LoopEnds x j v tb f nr h h' (continued s) = ⊥
@@ -91,14 +90,20 @@ abbrev pub TestEnds : Place → ℕ → Table → (f nr : ℕ) → (h h' : Share
 TestEnds x j tb f nr h h' s (got dt w) = Round f nr (is_on (number_in dt)) true h h' × Holds tb (at_world s w) h'
 TestEnds x j tb f nr h h' s (halts z w) = Stays z w h'
 
-abbrev pub TurnEnds : Place → ℕ → Ret → Table → Evaluation → (f nr : ℕ) → (h h' : Share) → Outcome → Type 0
+abbrev pub TurnEnds : Place → ℕ → ReturnPlace → Table → Evaluation → (f nr : ℕ) → (h h' : Share) → Outcome → Type 0
 TurnEnds x j v tb e f nr h h' (fell s) = TestEnds x j tb f nr h h' s (e s.variables s.world)
 TurnEnds x j v tb e f nr h h' (broke s) = Round f nr false true h h' × Holds tb s h'
 TurnEnds x j v tb e f nr h h' (continued s) = TestEnds x j tb f nr h h' s (e s.variables s.world)
 TurnEnds x j v tb e f nr h h' (returned dt w) = Round f nr false false h h' × Has x j v.ty dt (h'.lane.reg v.reg) × (h'.world ≡ w)
 TurnEnds x j v tb e f nr h h' (stopped z w) = Stays z w h'
 
-pub record Turn (x : Place) (v : Ret) (tb : Table) (e : Evaluation) (effect : Effect) (f nr : ℕ) (j : ℕ) (h h' : Share) : Type 0 where
+pub record Turn (x : Place) (v : ReturnPlace) (tb : Table) (e : Evaluation) (effect : Effect) (f nr : ℕ) (j : ℕ) (h h' : Share) : Type 0 where
   pub gone : (z : Stop) → h.lane.stop ≡ Some z → Stays z h.world h'
   pub off : h.lane.stop ≡ None → h.lane.on f ≡ false → (dk : ℕ) → Keeps dk (f + 1) h.world h h'
   pub runs : (s : State) → h.lane.stop ≡ None → h.lane.on f ≡ true → h.lane.on nr ≡ true → Holds tb s h → TurnEnds x j v tb e f nr h h' (effect s)
+
+-- a condition that is evaluated behind a turn, under the mask f of the loop
+pub record IsTested (x : Place) (tb : Table) (e : Evaluation) (f nr j : ℕ) (h h' : Share) : Type 0 where
+  pub gone : (z : Stop) → h.lane.stop ≡ Some z → Stays z h.world h'
+  pub off : h.lane.stop ≡ None → h.lane.on f ≡ false → (dk : ℕ) → Keeps dk (f + 1) h.world h h'
+  pub runs : (s : State) → h.lane.stop ≡ None → h.lane.on f ≡ true → h.lane.on nr ≡ true → Holds tb s h → TestEnds x j tb f nr h h' s (e s.variables s.world)
