@@ -134,7 +134,7 @@ at_most : (a b : ℕ) → a ≤ b → nat_le a b ≡ true
 at_most a b l = grind (arith, l)
 
 -- a loop, whose block stands behind it
-good_loop : (e : Environment) (c : Routine) (i : Instr) (b : List Instr) (depth : ℕ) → operation_of i ≡ Some (Loop (length b)) → i.m < c.masks → IsGoodPiece e c depth b → IsGoodPiece e c (depth + 1) (i ∷ b)
+pub good_loop : (e : Environment) (c : Routine) (i : Instr) (b : List Instr) (depth : ℕ) → operation_of i ≡ Some (Loop (length b)) → i.m < c.masks → IsGoodPiece e c depth b → IsGoodPiece e c (depth + 1) (i ∷ b)
 good_loop e c i b depth is lm g rest n k room ek le rg =
     let one_more : k ≡ suc (length b + n) = ek ∙ omega arith in
     subst (λ x. all_good (instr_verdicts e c room (i ∷ (b ++ rest)) zero x) ≡ true) (sym one_more) (by (block_of i) (ap block_in is))

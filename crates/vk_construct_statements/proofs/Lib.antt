@@ -1,4 +1,5 @@
 pub mod Branches
 pub mod Flow
+pub mod Looping
 pub mod Loops
 pub mod Straight
