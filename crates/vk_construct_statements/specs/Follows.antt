@@ -107,3 +107,7 @@ pub record IsTested (x : Place) (tb : Table) (e : Evaluation) (f nr j : ℕ) (h 
   pub gone : (z : Stop) → h.lane.stop ≡ Some z → Stays z h.world h'
   pub off : h.lane.stop ≡ None → h.lane.on f ≡ false → (dk : ℕ) → Keeps dk (f + 1) h.world h h'
   pub runs : (s : State) → h.lane.stop ≡ None → h.lane.on f ≡ true → h.lane.on nr ≡ true → Holds tb s h → TestEnds x j tb f nr h h' s (e s.variables s.world)
+
+-- the masks of a function's body: behind mask 0, that of the call
+abbrev pub body_masks : Guards
+body_masks = record { running = 1; looping = 2; staying = 3; free = 4 }

@@ -71,7 +71,7 @@ code_site c s ts more w r m f p e = record {
 -- ---- one lane
 
 -- the lane begins with the scalar function's variables
-holds_first : (s : Site) (ts : List CType) (scope : Scope) (mask : ℕ → Bool) (words : Words) (m : Cells) (j : ℕ) → types_in scope ≡ ts → length scope.inner ≡ length ts → s.code.routine.params ≡ length ts → j < s.entry.lanes →
+pub holds_first : (s : Site) (ts : List CType) (scope : Scope) (mask : ℕ → Bool) (words : Words) (m : Cells) (j : ℕ) → types_in scope ≡ ts → length scope.inner ≡ length ts → s.code.routine.params ≡ length ts → j < s.entry.lanes →
     Holds (param_table scope) (record { variables = first_variables (arguments_of ts words j); world = first_world m }) (first_share s mask words m j)
 holds_first s ts scope mask words m j et el ep lj = record {
   variables = λ k l. variable k (subst (λ n. k < n) el l);
