@@ -1,5 +1,5 @@
 -- The body of a function in one lane: its masks before it, and 0 behind it in the lanes that did not return.
-use Rattle.std.proofs.Common.{arith, sym, ◌≡◌, ◌≢◌, ℕ, ◌+◌, ◌<◌, ◌≤◌, Bool, true, false, ◌&&◌, Option, Some, None, refl, subst, ap, ap₂, ◌∙◌, Ok}
+use Rattle.std.proofs.Common.{arith, sym, ◌≡◌, ℕ, Bool, true, false, ◌&&◌, Some, None, refl, subst, ap, ◌∙◌, Ok}
 use Rattle.vk_types.specs.declared.types.Ty.{Ty}
 use Rattle.vk_kinds.specs.declared.heads.CType.TheVariants.{Void, Int}
 use Rattle.vk_meaning.specs.Data.{got, number}
@@ -13,12 +13,18 @@ use Rattle.vk_lane.specs.Entries.{EndsAs}
 use Rattle.vk_construct.specs.Computes.{Holds, Keeps, Table}
 use Rattle.vk_construct.proofs.Choices.{Masked, masked_by, number_zero}
 use Rattle.vk_construct.proofs.Values.{Wrote, gone_is, live_is, off_is, wrote}
-use Rattle.vk_construct_statements.specs.Follows.{After, AreApart, Exits, Follows, Guards, ReturnPlace, body_masks}
+use Rattle.vk_construct_statements.specs.Follows.{After, AreApart, Exits, Follows, body_masks}
 use Rattle.vk_construct_statements.proofs.Straight.{holds_same}
 
 pub apart_body : AreApart body_masks
 apart_body = record {
-    running_in = omega arith; looping_in = omega arith; staying_in = omega arith; running_looping = λ z. absurd (omega (arith, z)); running_staying = λ z. absurd (omega (arith, z)); looping_staying = λ z. absurd (omega (arith, z)) }
+  running_in = omega arith;
+  looping_in = omega arith;
+  staying_in = omega arith;
+  running_looping = λ z. absurd (omega (arith, z));
+  running_staying = λ z. absurd (omega (arith, z));
+  looping_staying = λ z. absurd (omega (arith, z));
+}
 
 -- behind the three masks
 record Begun (act : Bool) (h h3 : Share) : Type 0 where
@@ -31,26 +37,33 @@ record Begun (act : Bool) (h h3 : Share) : Type 0 where
 
 begun : (act : Bool) (j : ℕ) (h h1 h2 h3 : Share) → h.lane.stop ≡ None → h.lane.on 0 ≡ act → Masks 1 (λ q. q.lane.on 0 && q.lane.on 0) j h h1 → Masks 2 (λ q. q.lane.on 0 && q.lane.on 0) j h1 h2 → Masks 3 (λ q. q.lane.on 0 && q.lane.on 0) j h2 h3 → Begun act h h3
 begun act j h h1 h2 h3 st on e1 e2 e3 = record {
-    going = m3.stop ∙ (m2.stop ∙ (m1.stop ∙ st));
-    regs = λ r. m3.regs r ∙ (m2.regs r ∙ m1.regs r);
-    world = m3.world ∙ (m2.world ∙ m1.world);
-    runs = m3.others 1 (λ z. absurd (omega (arith, z))) ∙ (m2.others 1 (λ z. absurd (omega (arith, z))) ∙ (m1.itself ∙ twice (h.lane.on 0) on));
-    loops = m3.others 2 (λ z. absurd (omega (arith, z))) ∙ (m2.itself ∙ twice (h1.lane.on 0) (zero1 ∙ on));
-    stays = m3.itself ∙ twice (h2.lane.on 0) (zero2 ∙ (zero1 ∙ on)) }
+  going = m3.stop ∙ (m2.stop ∙ (m1.stop ∙ st));
+  regs = λ r. m3.regs r ∙ (m2.regs r ∙ m1.regs r);
+  world = m3.world ∙ (m2.world ∙ m1.world);
+  runs = m3.others 1 (λ z. absurd (omega (arith, z))) ∙ (m2.others 1 (λ z. absurd (omega (arith, z))) ∙ (m1.itself ∙ twice (h.lane.on 0) on));
+  loops = m3.others 2 (λ z. absurd (omega (arith, z))) ∙ (m2.itself ∙ twice (h1.lane.on 0) (zero1 ∙ on));
+  stays = m3.itself ∙ twice (h2.lane.on 0) (zero2 ∙ (zero1 ∙ on));
+}
   where
     m1 : Masked 1 (h.lane.on 0 && h.lane.on 0) h h1
     m1 = masked_by 1 j (λ q. q.lane.on 0 && q.lane.on 0) h h1 e1
+
     m2 : Masked 2 (h1.lane.on 0 && h1.lane.on 0) h1 h2
     m2 = masked_by 2 j (λ q. q.lane.on 0 && q.lane.on 0) h1 h2 e2
+
     m3 : Masked 3 (h2.lane.on 0 && h2.lane.on 0) h2 h3
     m3 = masked_by 3 j (λ q. q.lane.on 0 && q.lane.on 0) h2 h3 e3
+
     zero1 : h1.lane.on 0 ≡ h.lane.on 0
     zero1 = m1.others 0 (λ z. absurd (omega (arith, z)))
+
     zero2 : h2.lane.on 0 ≡ h1.lane.on 0
     zero2 = m2.others 0 (λ z. absurd (omega (arith, z)))
+
     self : (b : Bool) → (b && b) ≡ b
     self true = refl
     self false = refl
+
     twice : (b : Bool) → b ≡ act → (b && b) ≡ act
     twice b e = self b ∙ e
 

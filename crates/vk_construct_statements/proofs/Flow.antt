@@ -1,15 +1,14 @@
 -- Statements, put together.
-use Rattle.std.proofs.Common.{arith, sym, ◌≡◌, ◌≢◌, ℕ, zero, suc, ◌+◌, ◌-◌, ◌<◌, ◌≤◌, ◌==◌, nat_le, nat_lt, Bool, true, false, cond, not, ◌&&◌, ◌||◌, List, [], ◌∷◌, ◌++◌, length, drop, Option, Some, None, refl, subst, ap, ap₂, ◌∙◌, append_assoc, ℤ, pos, Result, Ok, Err, true≢false}
+use Rattle.std.proofs.Common.{arith, sym, ◌≡◌, ◌≢◌, ℕ, zero, suc, ◌+◌, ◌-◌, ◌<◌, ◌≤◌, nat_le, nat_lt, Bool, true, false, ◌&&◌, List, [], ◌∷◌, ◌++◌, length, drop, Option, Some, None, refl, subst, ap, ◌∙◌, pos, Ok, true≢false}
 use Rattle.std.proofs.Math.Seq.{drop-append_seam}
 use Rattle.vk_types.specs.declared.types.Ty.{Ty}
-use Rattle.vk_types.specs.declared.types.Stop.{Stop}
-use Rattle.vk_types.specs.Numbers.{IsCanonical, number_of, word_of, wrap_number}
+use Rattle.vk_types.specs.Numbers.{number_of, word_of, wrap_number}
 use Rattle.vk_kinds.specs.declared.heads.CType.{CType}
 use Rattle.vk_kinds.specs.declared.heads.CType.TheVariants.{Int}
 use Rattle.vk_numbers.proofs.Numbers.{number_of-word, wrap_in_range}
 use Rattle.vk_meaning.specs.Data.{Datum, as_type, number, number_in}
 use Rattle.vk_meaning.specs.Expressions.{Context}
-use Rattle.vk_meaning.specs.Statements.{Effect, Evaluation, State, assign_variable, branch, broke, continued, evaluate, fell, on_value, repeat, returned, then_do, turns, with_third, with_variable}
+use Rattle.vk_meaning.specs.Statements.{Effect, assign_variable, branch, broke, continued, evaluate, fell, on_value, returned, then_do, with_variable}
 use Rattle.vk_meaning.specs.Lanes.{datum_of}
 use Rattle.vk_code.specs.declared.instruction.Instr.{Instr}
 use Rattle.vk_code.specs.declared.instruction.Operation.TheVariants.{Loop}
@@ -17,24 +16,19 @@ use Rattle.vk_code.specs.Instruction.{block_in, block_of, operation_of}
 use Rattle.vk_code.specs.Listing.{Routine}
 use Rattle.vk_code.specs.Tests.{all_good, holds}
 use Rattle.vk_code.specs.Valid.{Environment, instr_verdicts, is_good_instr, is_typed}
-use Rattle.vk_object.specs.Lane.{is_live}
-use Rattle.vk_lane.specs.Places.{Share, reg_type}
-use Rattle.vk_lane.specs.Pieces.{Change, Repeats}
-use Rattle.vk_lane.specs.Writes.{Masks, Writes}
-use Rattle.vk_lane.specs.Entries.{LaneCall, place_of}
-use Rattle.vk_lane.proofs.Rules.{does_loop}
-use Rattle.vk_construct.specs.Computes.{Computes, Has, IsTable, Table}
-use Rattle.vk_construct.specs.Adds.{Adds, AddsValue, Finishes, HasType, HasWritten, IsGoodPiece, IsTableOf, LeavesOut, Splits, TestsOn, Written}
+use Rattle.vk_lane.specs.Writes.{Writes}
+use Rattle.vk_lane.specs.Entries.{place_of}
+use Rattle.vk_construct.specs.Computes.{Computes, Table}
+use Rattle.vk_construct.specs.Adds.{Adds, AddsValue, HasType, HasWritten, IsGoodPiece, IsTableOf, LeavesOut, Splits, Written}
 use Rattle.vk_construct.specs.Applies.{number_at}
-use Rattle.vk_construct.proofs.Adding.{adds_nil, adds_then, adds_weaken, finishes_less, has_written_less, table_kept, table_there, type_there}
+use Rattle.vk_construct.proofs.Adding.{adds_nil, adds_then, adds_weaken, has_written_less, table_there, type_there}
 use Rattle.vk_construct.proofs.Choices.{number_zero}
 use Rattle.vk_construct.proofs.Evaluating.{Expression}
 use Rattle.vk_construct.proofs.Good.{below, both_good}
-use Rattle.vk_construct_statements.specs.Follows.{AreApart, Follows, Guards, IsFront, IsTested, ReturnPlace, Turn, Works, inner, pushed}
-use Rattle.vk_construct_statements.specs.Statements.{AddsStatement, Meets, Unites}
+use Rattle.vk_construct_statements.specs.Follows.{AreApart, Follows, Guards, IsFront, ReturnPlace, first_branch, pushed, second_branch}
+use Rattle.vk_construct_statements.specs.Statements.{AddsStatement, Unites}
 use Rattle.vk_construct_statements.proofs.Straight.{follows_assign, follows_block, follows_declared, follows_nothing, follows_then, follows_value}
-use Rattle.vk_construct_statements.proofs.Branches.{first_branch, follows_branch, follows_break, follows_continue, follows_return, second_branch}
-use Rattle.vk_construct_statements.proofs.Loops.{follows_do, follows_while, tests_on, turn_of, works_body, works_third}
+use Rattle.vk_construct_statements.proofs.Branches.{follows_branch, follows_break, follows_continue, follows_return}
 
 -- a statement, by the program that it stands in
 abbrev pub Statement : Type 0
@@ -65,8 +59,8 @@ pub flow_assign : (a b c : Written) (v : ReturnPlace) (tb : Table) (e : Expressi
     AddsValue a b tb e (Int s) r m.running k m.free n → Adds b c (λ q. Writes m.running (tb.reg x) (λ j h. Ok (word_of (wrap_number t (number_at s r h))))) 1 0 → AddsStatement a c v tb tb (λ c. assign_variable (record { number = x; ctype = tb.ty x }) (e c)) m (n + 1) 0
 flow_assign a b c v tb e s t r x k n m ap_ it lx ty p p' = adds_weaken a c _ _ (n + 1) (n + 1) 0 (adds_then a b c _ _ n 1 0 p p') (omega arith)
     (λ q hw j h h' s1 s2 y. follows_assign (place_of q) v tb (e q.context) (Int s) r k x (λ i g. Ok (word_of (wrap_number t (number_at s r g)))) m j h y.0 h' ap_
-        (table_there q a tb k (has_written_less a b _ n 0 q p (has_written_less b c _ 1 0 q p' hw)) it) lx y.1 y.2
-        (λ dt has. (word_of (wrap_number t (number_at s r y.0)), refl, word dt (y.0).lane.reg has.is)))
+    (table_there q a tb k (has_written_less a b _ n 0 q p (has_written_less b c _ 1 0 q p' hw)) it) lx y.1 y.2
+    (λ dt has. (word_of (wrap_number t (number_at s r y.0)), refl, word dt (y.0).lane.reg has.is)))
   where
     word : (dt : Datum) (reg : ℕ → ℕ) → dt ≡ number (number_of s (reg r)) → as_type (tb.ty x) dt ≡ datum_of (tb.ty x) (word_of (wrap_number t (number_of s (reg r))))
     word dt reg e' = subst (λ u. as_type u dt ≡ datum_of u (word_of (wrap_number t (number_of s (reg r))))) (sym ty)
@@ -89,10 +83,10 @@ flow_branch c0 c1 c2 c3 c4 c5 v tb e first second t r k m n n1 n2 depth ap_ it t
     adds_weaken c0 c5 _ _ (n + 2 + n1 + n2 + 1) (n + n1 + n2 + 3) depth
     (adds_then c0 c4 c5 _ _ (n + 2 + n1 + n2) 1 depth (adds_then c0 c3 c4 _ _ (n + 2 + n1) n2 depth (adds_then c0 c2 c3 _ _ (n + 2) n1 depth (adds_then c0 c1 c2 _ _ n 2 depth p1 p2) p3) p4) p5) (omega arith)
     (λ q hw j h h' s s' x.
-        let y4 = x.1 in let y3 = y4.1 in let y2 = y3.1 in let split = y2.2 in
-        let there : HasWritten q c1 = has_written_less c1 c2 _ 2 depth q p2 (has_written_less c2 c3 _ n1 depth q p3 (has_written_less c3 c4 _ n2 depth q p4 (has_written_less c4 c5 _ 1 depth q p5 hw))) in
-        follows_branch (place_of q) v tb (e q.context) (first q.context) (second q.context) t r k m j h y2.0 split.0 y3.0 y4.0 x.0 h' ap_
-            (table_there q c0 tb k (has_written_less c0 c1 _ n depth q p1 there) it) (type_there q c1 r (Int t) there tr) y2.3 y2.1 split.1 split.2 y3.2 y4.2 x.2)
+    let y4 = x.1 in let y3 = y4.1 in let y2 = y3.1 in let split = y2.2 in
+    let there : HasWritten q c1 = has_written_less c1 c2 _ 2 depth q p2 (has_written_less c2 c3 _ n1 depth q p3 (has_written_less c3 c4 _ n2 depth q p4 (has_written_less c4 c5 _ 1 depth q p5 hw))) in
+    follows_branch (place_of q) v tb (e q.context) (first q.context) (second q.context) t r k m j h y2.0 split.0 y3.0 y4.0 x.0 h' ap_
+    (table_there q c0 tb k (has_written_less c0 c1 _ n depth q p1 there) it) (type_there q c1 r (Int t) there tr) y2.3 y2.1 split.1 split.2 y3.2 y4.2 x.2)
 
 -- the lanes that run leave the loop's mask and their own
 pub flow_break : (a b c : Written) (v : ReturnPlace) (tb : Table) (m : Guards) → AreApart m → Adds a b (LeavesOut m.looping m.looping m.running) 1 0 → Adds b c (LeavesOut m.running m.running m.running) 1 0 → AddsStatement a c v tb tb (λ c. broke) m 2 0
@@ -126,6 +120,7 @@ good_both (x ∷ xs) ys e f = both_good x (all_good (xs ++ ys)) (first x (all_go
     first : (p q : Bool) → (p && q) ≡ true → p ≡ true
     first true q e = refl
     first false q e = e
+
     second : (p q : Bool) → (p && q) ≡ true → q ≡ true
     second true q e = e
     second false q e = absurd (true≢false (sym e))
@@ -141,15 +136,19 @@ good_loop e c i b depth is lm g rest n k room ek le rg =
   where
     here : is_good_instr e c i ≡ true
     here = both_good (nat_lt i.m c.masks) (holds (is_typed e c) (operation_of i)) (below i.m c.masks lm) (ap (holds (is_typed e c)) is)
+
     inside : all_good (instr_verdicts e c (room - 1) (b ++ rest) zero (length b)) ≡ true
     inside = g rest 0 (length b) (room - 1) (omega arith) (omega (arith, le)) (ap all_good (no_verdicts e c (room - 1) rest))
+
     behind : all_good (instr_verdicts e c room (b ++ rest) (length b) (length b + n - length b)) ≡ true
     behind = ap all_good (verdicts_behind e c room (b ++ rest) (length b) (length b + n - length b)
         ∙ (ap (λ l. instr_verdicts e c room l zero (length b + n - length b)) (drop-append_seam b rest)
         ∙ ap (λ x. instr_verdicts e c room rest zero x) (omega arith))) ∙ rg
+
     by : (o : Option ℕ) → o ≡ Some (length b) → all_good (elim o as (λ _. List Bool) [
-        | None ↦ is_good_instr e c i ∷ instr_verdicts e c room (b ++ rest) zero (length b + n)
-        | Some x ↦ (is_good_instr e c i && nat_le x (length b + n) && nat_lt 0 room) ∷ (instr_verdicts e c (room - 1) (b ++ rest) zero x ++ instr_verdicts e c room (b ++ rest) x (length b + n - x)) ]) ≡ true
+      | None ↦ is_good_instr e c i ∷ instr_verdicts e c room (b ++ rest) zero (length b + n)
+      | Some x ↦ (is_good_instr e c i && nat_le x (length b + n) && nat_lt 0 room) ∷ (instr_verdicts e c (room - 1) (b ++ rest) zero x ++ instr_verdicts e c room (b ++ rest) x (length b + n - x))
+    ]) ≡ true
     by None h = cc
     by (Some x) h = subst (λ y. all_good ((is_good_instr e c i && nat_le y (length b + n) && nat_lt 0 room) ∷ (instr_verdicts e c (room - 1) (b ++ rest) zero y ++ instr_verdicts e c room (b ++ rest) y (length b + n - y))) ≡ true) (sym (same x h))
         (both_good _ _ (both_good _ _ (both_good _ _ here (at_most (length b) (length b + n) (omega arith))) (below 0 room (omega (arith, le)))) (good_both (instr_verdicts e c (room - 1) (b ++ rest) zero (length b)) (instr_verdicts e c room (b ++ rest) (length b) (length b + n - length b)) inside behind))

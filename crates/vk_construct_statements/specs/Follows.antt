@@ -111,3 +111,10 @@ pub record IsTested (x : Place) (tb : Table) (e : Evaluation) (f nr j : ℕ) (h 
 -- the masks of a function's body: behind mask 0, that of the call
 abbrev pub body_masks : Guards
 body_masks = record { running = 1; looping = 2; staying = 3; free = 4 }
+
+-- the masks of the two branches of an `if`
+abbrev pub first_branch : Guards → Guards
+first_branch m = record { running = m.free; looping = m.looping; staying = m.staying; free = m.free + 2 }
+
+abbrev pub second_branch : Guards → Guards
+second_branch m = record { running = m.free + 1; looping = m.looping; staying = m.staying; free = m.free + 2 }
