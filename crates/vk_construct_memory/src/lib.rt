@@ -1,0 +1,2 @@
+//! Loads and stores as code that is appended.
+#![tactic(auto)]
