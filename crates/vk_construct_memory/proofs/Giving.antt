@@ -79,3 +79,12 @@ typed_load e c w to written d a f td ta = ap₂ is_load (finished_type c w d (In
 
 pub typed_store : (e : Environment) (c : Routine) (w : Written) (to : Ty) (a b : ℕ) → Finishes c w → HasPointer w a to true → HasType w b to → is_typed e c (Store a b) ≡ true
 typed_store e c w to a b f ta tb = ap₂ is_store (finished_type c w a (Ptr to true) f ta) (finished_type c w b (Int to) f tb) ∙ both_good _ _ (integer_is to) (same (8 + type_number to) (type_number to + 8) (omega arith))
+
+-- what was written before one instruction
+pub put_less : (b c : Written) (i : Instr) (types : List CType) → Puts b c i types → (q : LaneCall) → HasWritten q c → HasWritten q b
+put_less b c i types p q h = record {
+    place = h.place; params = h.params ∙ p.params;
+    code = record {
+      regs = λ k t e. h.code.regs k t (subst (λ l. slice_get l k ≡ Some t) (sym p.regs) (was_there b.regs types k t e));
+      masks = let x = p.masks in let y = h.code.masks in omega (arith, x, y);
+      slots = λ k x e. h.code.slots k x (subst (λ l. slice_get l k ≡ Some x) (sym p.slots) e) } }
