@@ -35,7 +35,7 @@ adds_given a b c i types o F P G s depth one p is plain lm ty d gives = record {
     good = λ e r f. good_append e r depth one.piece (i ∷ []) (one.good e r (less r f)) (good_deeper e r 0 depth (i ∷ []) (omega arith) (let y = f.masks in good_one e r i o is plain (omega (arith, lm, y)) (ty e r f)));
     does = λ q h. does_weaken (place_of q) Always Always _ _ (one.piece ++ i ∷ [])
         (does_append (place_of q) Always (P q) (λ j p p'. F q j p p' × IsSound (place_of q) j p') (G q) one.piece (i ∷ [])
-            (does_weaken (place_of q) Always Always (F q) _ one.piece (one.does q (record { place = h.place; params = h.params ∙ p.params; code = less q.site.code.routine h.code })) (λ j p _ u. tt) (λ j p p' sp sp' _ f. (f, sp')))
+            (does_weaken (place_of q) Always Always (F q) _ one.piece (one.does q (record { place = h.place; params = h.params ∙ p.params; types = h.types; code = less q.site.code.routine h.code })) (λ j p _ u. tt) (λ j p p' sp sp' _ f. (f, sp')))
             (d q h) (λ j p p' sp sp' _ f. gives q h j p p' sp' f.0))
         (λ j p _ u. tt) (λ j p p' sp sp' _ f. (f.0, f.1.0, f.2, f.1.1));
     short = let x = one.short in subst (λ n. n ≤ s + 1) (sym (length-append one.piece (i ∷ []))) (omega (arith, x)) }
@@ -83,7 +83,7 @@ typed_store e c w to a b f ta tb = ap₂ is_store (finished_type c w a (Ptr to t
 -- what was written before one instruction
 pub put_less : (b c : Written) (i : Instr) (types : List CType) → Puts b c i types → (q : LaneCall) → HasWritten q c → HasWritten q b
 put_less b c i types p q h = record {
-    place = h.place; params = h.params ∙ p.params;
+    place = h.place; params = h.params ∙ p.params; types = h.types;
     code = record {
       regs = λ k t e. h.code.regs k t (subst (λ l. slice_get l k ≡ Some t) (sym p.regs) (was_there b.regs types k t e));
       masks = let x = p.masks in let y = h.code.masks in omega (arith, x, y);

@@ -103,7 +103,7 @@ pub function_on_lanes : (c : Context) (s : Site) (b : Bodies) (entry : ℕ) (sco
 function_on_lanes c s b entry scope ts effect rt result w size depth m mask words old et el a fin mach some nobody plain ty apart =
     lane_run c s b entry ts rt (value_of_body effect rt c) m mask words old site some nobody plain ty apart
     (does_function (lanes_call c s b ts mask words m) mask scope ts effect rt result w size depth (λ j lj. ap (λ p. p && mask j) (yes j s.entry.lanes lj)) et el site.params
-    (record { place = lanes_are_place c s b ts mask words m site ty apart; params = sym a.params; code = finished s.code.routine w result fin }) fin a)
+    (record { place = lanes_are_place c s b ts mask words m site ty apart; params = sym a.params; types = site.types; code = finished s.code.routine w result fin }) fin a)
   where
     site : IsCodeSite c s ts
     site = code_site c s ts a.types w result mach fin a.params a.regs
@@ -117,7 +117,7 @@ pub function_alone : (c : Context) (s : Site) (b : Bodies) (entry : ℕ) (scope 
 function_alone c s b entry scope ts effect rt result w size depth m words et el a fin mach single nobody plain ty =
     alone_run c s b entry ts rt (value_of_body effect rt c) m words site single nobody plain ty
     (does_function (alone_call c s b ts words m) one_lane scope ts effect rt result w size depth (λ j lj. refl) et el site.params
-    (record { place = alone_is_place c s b ts words m site single ty; params = sym a.params; code = finished s.code.routine w result fin }) fin a)
+    (record { place = alone_is_place c s b ts words m site single ty; params = sym a.params; types = site.types; code = finished s.code.routine w result fin }) fin a)
   where
     site : IsCodeSite c s ts
     site = code_site c s ts a.types w result mach fin a.params a.regs

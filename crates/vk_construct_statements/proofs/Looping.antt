@@ -36,7 +36,7 @@ adds_elsewhere a b c d F s depth p er er' es es' em em' ep ep' ei = record {
   masks = let le = p.masks in omega (arith, le, em, em');
   params = ep' ∙ (p.params ∙ sym ep);
   good = λ e c' f. p.good e c' (finishes c' f);
-  does = λ q h. p.does q (record { place = h.place; params = h.params ∙ ep'; code = finishes q.site.code.routine h.code });
+  does = λ q h. p.does q (record { place = h.place; params = h.params ∙ ep'; types = h.types; code = finishes q.site.code.routine h.code });
   short = p.short;
 }
   where
@@ -60,7 +60,7 @@ adds_loop a b c i F s depth block is lm ei er es em ep = record {
   masks = let le = block.masks in omega (arith, le, em);
   params = ep ∙ block.params;
   good = λ e r f. let le = f.masks in good_loop e r i block.piece depth is (omega (arith, lm, le, em)) (block.good e r (finishes r f));
-  does = λ q h. does_loop (place_of q) (F q) i block.piece h.place.cares is (block.does q (record { place = h.place; params = h.params ∙ ep; code = finishes q.site.code.routine h.code }));
+  does = λ q h. does_loop (place_of q) (F q) i block.piece h.place.cares is (block.does q (record { place = h.place; params = h.params ∙ ep; types = h.types; code = finishes q.site.code.routine h.code }));
   short = let le = block.short in omega (arith, le);
 }
   where
