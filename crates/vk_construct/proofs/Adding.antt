@@ -88,8 +88,10 @@ usable_read q w r to h l e = ap₂ (λ a b. a && is_pointer_type b && is_usable 
   where
     inside : (a b : ℕ) → a < b → nat_lt a b ≡ true
     inside a b k = grind (arith, k)
+
     type_is : type_at q.types r ≡ Ptr to false
     type_is = sym (h.types r (subst (λ n. r < n) (sym h.params) l)) ∙ type_there q w r (Ptr to false) h e
+
     any : (m : Mode) → (true && true && is_usable m (Ptr to false)) ≡ true
     any (on_lanes mask) = refl
     any alone = refl

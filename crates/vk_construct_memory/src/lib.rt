@@ -1,2 +1,4 @@
-//! Loads and stores as code that is appended.
+//! Pointers, loads and stores as code that is appended.
 #![tactic(auto)]
+
+pub mod laws;
