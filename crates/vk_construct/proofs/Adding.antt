@@ -1,7 +1,9 @@
 -- Rules for code that is appended.
-use Rattle.std.proofs.Common.{arith, sym, ◌≡◌, ℕ, zero, suc, ◌+◌, ◌<◌, ◌≤◌, nat_lt, true, false, ◌&&◌, List, [], ◌∷◌, ◌++◌, length, Some, None, refl, subst, ap, ◌∙◌, append_assoc, append-nil, length-append}
+use Rattle.std.proofs.Common.{arith, sym, ◌≡◌, ℕ, zero, suc, ◌+◌, ◌<◌, ◌≤◌, nat_lt, Bool, true, false, ◌&&◌, List, [], ◌∷◌, ◌++◌, length, Some, None, refl, subst, ap, ap₂, ◌∙◌, append_assoc, append-nil, length-append}
 use Rattle.std.specs.Prelude.{slice_get}
+use Rattle.vk_types.specs.declared.types.Ty.{Ty}
 use Rattle.vk_kinds.specs.declared.heads.CType.{CType}
+use Rattle.vk_kinds.specs.declared.heads.CType.TheVariants.{Int, Ptr}
 use Rattle.vk_meaning.specs.Types.{is_pointer_type, type_at}
 use Rattle.vk_code.specs.declared.instruction.Instr.{Instr}
 use Rattle.vk_code.specs.declared.instruction.Operation.{Operation}
@@ -10,10 +12,10 @@ use Rattle.vk_code.specs.Listing.{Routine}
 use Rattle.vk_code.specs.Valid.{Environment, is_typed}
 use Rattle.vk_lane.specs.Places.{Share, IsSound, reg_type, type_in}
 use Rattle.vk_lane.specs.Pieces.{Change, Always, Does}
-use Rattle.vk_lane.specs.Entries.{LaneCall, place_of}
+use Rattle.vk_lane.specs.Entries.{LaneCall, Mode, on_lanes, alone, chunk, is_usable, place_of}
 use Rattle.vk_lane.proofs.Rules.{does_append, does_nil, does_weaken}
 use Rattle.vk_construct.specs.Computes.{Table, IsTable}
-use Rattle.vk_construct.specs.Adds.{Adds, Finishes, HasWritten, IsTableOf, Puts, Written}
+use Rattle.vk_construct.specs.Adds.{Adds, Finishes, HasType, HasWritten, IsTableOf, Puts, Written}
 use Rattle.vk_construct.proofs.Good.{good_append, good_deeper, good_nil, good_one}
 
 -- ---- what stays
@@ -43,7 +45,7 @@ finishes_less old new F s depth c a f = record {
 }
 
 pub has_written_less : (old new : Written) (F : LaneCall → Change) (s depth : ℕ) (q : LaneCall) → Adds old new F s depth → HasWritten q new → HasWritten q old
-has_written_less old new F s depth q a h = record { place = h.place; params = h.params ∙ a.params; code = finishes_less old new F s depth q.site.code.routine a h.code }
+has_written_less old new F s depth q a h = record { place = h.place; params = h.params ∙ a.params; types = h.types; code = finishes_less old new F s depth q.site.code.routine a h.code }
 
 -- a register keeps its type, there are no fewer, and variables keep theirs
 pub type_kept : (old new : Written) (F : LaneCall → Change) (s depth r : ℕ) (t : CType) → Adds old new F s depth → slice_get old.regs r ≡ Some t → slice_get new.regs r ≡ Some t
@@ -71,6 +73,29 @@ free_register q w d h le = ap (λ b. b && is_pointer_type (type_at q.types d)) (
   where
     past : (a b : ℕ) → b ≤ a → nat_lt a b ≡ false
     past a b l = grind (arith, l)
+
+-- so is the register of an integer, also of a parameter
+pub free_integer : (q : LaneCall) (w : Written) (d : ℕ) (t : Ty) → HasWritten q w → HasType w d t → (place_of q).fixed d ≡ false
+free_integer q w d t h e = go (nat_lt d (length q.types)) refl
+  where
+    go : (b : Bool) → nat_lt d (length q.types) ≡ b → (b && is_pointer_type (type_at q.types d)) ≡ false
+    go true l = ap is_pointer_type (sym (h.types d (grind (arith, l))) ∙ type_there q w d (Int t) h e)
+    go false l = refl
+
+-- a parameter that is a pointer may be used as it is, where its elements are only read
+pub usable_read : (q : LaneCall) (w : Written) (r : ℕ) (to : Ty) → HasWritten q w → r < w.params → slice_get w.regs r ≡ Some (Ptr to false) → (place_of q).usable r ≡ true
+usable_read q w r to h l e = ap₂ (λ a b. a && is_pointer_type b && is_usable q.mode b) (inside r (length q.types) (subst (λ n. r < n) (sym h.params) l)) type_is ∙ any q.mode
+  where
+    inside : (a b : ℕ) → a < b → nat_lt a b ≡ true
+    inside a b k = grind (arith, k)
+
+    type_is : type_at q.types r ≡ Ptr to false
+    type_is = sym (h.types r (subst (λ n. r < n) (sym h.params) l)) ∙ type_there q w r (Ptr to false) h e
+
+    any : (m : Mode) → (true && true && is_usable m (Ptr to false)) ≡ true
+    any (on_lanes mask) = refl
+    any alone = refl
+    any (chunk stored first) = refl
 
 -- ---- pieces
 

@@ -27,7 +27,7 @@ use Rattle.vk_lane.proofs.Rules.{does_weaken}
 use Rattle.vk_lane.proofs.Writing.{IsWrite, does_mask_and, does_mask_but, does_mask_of, does_mask_or, does_write, write_binary, write_compare, write_const, write_convert, write_unary}
 use Rattle.vk_construct.specs.Adds.{Adds, AddsNumber, Finishes, HasType, HasWritten, LeavesOut, Puts, Splits, TestsOn, Written}
 use Rattle.vk_construct.specs.Applies.{Applies, IsResult, number_at, one, two}
-use Rattle.vk_construct.proofs.Adding.{adds_nil, adds_put, adds_then, adds_weaken, free_register, type_there}
+use Rattle.vk_construct.proofs.Adding.{adds_nil, adds_put, adds_then, adds_weaken, free_integer, free_register, type_there}
 use Rattle.vk_construct.proofs.Applying.{word_is_result, writes_apply}
 use Rattle.vk_construct.proofs.Good.{IsPromoted, good_masks, typed_binary, typed_compare, typed_const, typed_convert, typed_mask_of, typed_unary}
 use Rattle.vk_construct.proofs.Values.{idles_same, keeps_same}
@@ -90,6 +90,24 @@ adds_compare a b i types op t r r' d m k f p em lm is target tr tr' pt rt = adds
     (λ e c fin. typed_compare e c b op t d r r' fin pt target.typed tr tr')
     (λ q hw. write_compare (place_of q) Always op t i.m d r r' (type_there q b d (Int I32) hw target.typed) rt)
     (λ j h. word_is_result I32 _ (λ z e. subst (λ v. IsInRange v z) rt (op2_in_range op t (number_at t r h) (number_at t r' h) z e)))
+
+-- ---- into a register that is there, as that of a variable
+
+adds_into : (a b : Written) (i : Instr) (o : Operation) (res : ℕ → Share → Result ℕ Stop) (t : Ty) (d m : ℕ) → Puts a b i [] → i.m ≡ m → m < b.masks → operation_of i ≡ Some o → block_in (Some o) ≡ None → HasType b d t →
+    ((e : Environment) (c : Routine) → Finishes c b → is_typed e c o ≡ true) → ((q : LaneCall) → HasWritten q b → IsWrite (place_of q) Always i.m d o res) → Adds a b (λ q. Writes m d res) 1 0
+adds_into a b i o res t d m p em lm is plain td ty w = adds_put a b i [] o _ p is plain (subst (λ n. n < b.masks) (sym em) lm) ty (λ q hw.
+    does_weaken (place_of q) Always Always _ _ (i ∷ []) (does_write (place_of q) Always d i o res hw.place (free_integer q b d t hw td) is (w q hw)) (λ j h s u. tt)
+    (λ j h h' s s' u z. subst (λ n. Writes n d res j h h') em z.1))
+
+pub adds_const_into : (a b : Written) (i : Instr) (value : Word) (t : Ty) (d m : ℕ) → Puts a b i [] → i.m ≡ m → m < b.masks → operation_of i ≡ Some (Const t d value) → HasType b d t → IsCanonical t value.0 → Adds a b (λ q. Writes m d (λ j h. Ok value.0)) 1 0
+adds_const_into a b i value t d m p em lm is td can = adds_into a b i (Const t d value) (λ j h. Ok value.0) t d m p em lm is refl td
+    (λ e c fin. typed_const e c b t d value fin td can)
+    (λ q hw. write_const (place_of q) Always i.m d t value (subst (λ u. IsWord u value.0) (sym (type_there q b d (Int t) hw td)) can))
+
+pub adds_convert_into : (a b : Written) (i : Instr) (s t : Ty) (r d m : ℕ) → Puts a b i [] → i.m ≡ m → m < b.masks → operation_of i ≡ Some (Convert d r) → HasType b d t → HasType b r s → Adds a b (λ q. Writes m d (λ j h. Ok (word_of (wrap_number t (number_at s r h))))) 1 0
+adds_convert_into a b i s t r d m p em lm is td tr = adds_into a b i (Convert d r) (λ j h. Ok (word_of (wrap_number t (number_at s r h)))) t d m p em lm is refl td
+    (λ e c fin. typed_convert e c b t s d r fin td tr)
+    (λ q hw. write_convert (place_of q) Always i.m d r t s (type_there q b d (Int t) hw td) (type_there q b r (Int s) hw tr))
 
 -- ---- masks
 

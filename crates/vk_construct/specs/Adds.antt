@@ -4,6 +4,7 @@ use Rattle.vk_types.specs.declared.types.Stop.{Stop}
 use Rattle.vk_types.specs.declared.types.Ty.{Ty}
 use Rattle.vk_kinds.specs.declared.heads.CType.{CType}
 use Rattle.vk_kinds.specs.declared.heads.CType.TheVariants.{Int}
+use Rattle.vk_meaning.specs.Types.{type_at}
 use Rattle.vk_meaning.specs.Expressions.{Context}
 use Rattle.vk_meaning.specs.Statements.{Evaluation}
 use Rattle.vk_code.specs.declared.instruction.Instr.{Instr}
@@ -11,7 +12,7 @@ use Rattle.vk_code.specs.Listing.{CallSite, Routine}
 use Rattle.vk_code.specs.Tests.{all_good}
 use Rattle.vk_code.specs.Valid.{Environment, instr_verdicts}
 use Rattle.vk_object.specs.Lane.{is_live}
-use Rattle.vk_lane.specs.Places.{Share, IsPlace}
+use Rattle.vk_lane.specs.Places.{Share, IsPlace, reg_type}
 use Rattle.vk_lane.specs.Pieces.{Change, Always, Does}
 use Rattle.vk_lane.specs.Writes.{Masks}
 use Rattle.vk_lane.specs.Entries.{LaneCall, place_of}
@@ -38,6 +39,7 @@ pub record Finishes (c : Routine) (w : Written) : Type 0 where
 pub record HasWritten (q : LaneCall) (w : Written) : Type 0 where
   pub place : IsPlace (place_of q)
   pub params : length q.types ≡ w.params
+  pub types : (r : ℕ) → r < length q.types → reg_type (place_of q) r ≡ type_at q.types r
   pub code : Finishes q.site.code.routine w
 
 -- ---- pieces

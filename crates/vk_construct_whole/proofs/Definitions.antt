@@ -47,14 +47,14 @@ means_value units turns text d e t ds m is one =
     ∙ (ap (λ b. ended d.function.result (run (own_context units turns d) (first_point d) b (record { variables = first_variables ds; world = first_world m }))) one.body
     ∙ one_return (own_context units turns d) (first_point d) one.line one.token one.return_line one.return_token e t (first_variables ds) (first_world m) refl one.result)
 
-all_named : (ps : List ParamDecl) → AllByRecursion (λ (p : ParamDecl). is_some p.name ≡ true) ps → AreNamed ps
+pub all_named : (ps : List ParamDecl) → AllByRecursion (λ (p : ParamDecl). is_some p.name ≡ true) ps → AreNamed ps
 all_named [] h = tt
 all_named (p ∷ ps) h = (h.0, all_named ps h.1)
 
-scope_types : (d : Definition) → AreNamed d.function.params → types_in (body_scope d) ≡ param_types d
+pub scope_types : (d : Definition) → AreNamed d.function.params → types_in (body_scope d) ≡ param_types d
 scope_types d named = types_of_params (file_scope d.unit.texts d.items) d.function.params named
 
-scope_count : (d : Definition) → AreNamed d.function.params → length (body_scope d).inner ≡ length (param_types d)
+pub scope_count : (d : Definition) → AreNamed d.function.params → length (body_scope d).inner ≡ length (param_types d)
 scope_count d named = sym (length-map (body_scope d).inner (λ (b : Binding). b.ctype)) ∙ ap length (scope_types d named)
 
 -- ---- calls

@@ -71,7 +71,7 @@ code_site c s ts more w r m f p e = record {
 -- ---- one lane
 
 -- the lane begins with the scalar function's variables
-holds_first : (s : Site) (ts : List CType) (scope : Scope) (mask : ℕ → Bool) (words : Words) (m : Cells) (j : ℕ) → types_in scope ≡ ts → length scope.inner ≡ length ts → s.code.routine.params ≡ length ts → j < s.entry.lanes →
+pub holds_first : (s : Site) (ts : List CType) (scope : Scope) (mask : ℕ → Bool) (words : Words) (m : Cells) (j : ℕ) → types_in scope ≡ ts → length scope.inner ≡ length ts → s.code.routine.params ≡ length ts → j < s.entry.lanes →
     Holds (param_table scope) (record { variables = first_variables (arguments_of ts words j); world = first_world m }) (first_share s mask words m j)
 holds_first s ts scope mask words m j et el ep lj = record {
   variables = λ k l. variable k (subst (λ n. k < n) el l);
@@ -139,7 +139,7 @@ pub value_on_lanes : (c : Context) (s : Site) (b : Bodies) (entry : ℕ) (scope 
     AreTyped ts c.arrays s.entry.lanes words mask → AreApart ts c.arrays s.entry.lanes words mask → IsLaneRun c.arrays b ts (value_from e c) s.entry.lanes mask words m old (enters entry s mask words m)
 value_on_lanes c s b entry scope ts e t w r size m mask words old et el a tr fin mach some nobody ty apart =
     lane_run c s b entry ts (Int t) (value_from e c) m mask words old site some nobody (no_pointer t) ty apart
-    (does_whole q mask scope ts e t w r size (λ j lj. ap (λ p. p && mask j) (yes j s.entry.lanes lj)) et el site.params (record { place = lanes_are_place c s b ts mask words m site ty apart; params = sym a.params; code = finished s.code.routine w (Some r) fin }) fin tr a)
+    (does_whole q mask scope ts e t w r size (λ j lj. ap (λ p. p && mask j) (yes j s.entry.lanes lj)) et el site.params (record { place = lanes_are_place c s b ts mask words m site ty apart; params = sym a.params; types = site.types; code = finished s.code.routine w (Some r) fin }) fin tr a)
   where
     site : IsCodeSite c s ts
     site = code_site c s ts a.types w (Some r) mach fin a.params a.regs
@@ -156,7 +156,7 @@ pub value_alone : (c : Context) (s : Site) (b : Bodies) (entry : ℕ) (scope : S
     AreTyped ts c.arrays 1 words one_lane → IsSameRun b m (value_from e c (arguments_of ts words 0) m.cells) (enters entry s one_lane words m)
 value_alone c s b entry scope ts e t w r size m words et el a tr fin mach single nobody ty =
     alone_run c s b entry ts (Int t) (value_from e c) m words site single nobody (no_pointer t) ty
-    (does_whole q one_lane scope ts e t w r size (λ j lj. refl) et el site.params (record { place = alone_is_place c s b ts words m site single ty; params = sym a.params; code = finished s.code.routine w (Some r) fin }) fin tr a)
+    (does_whole q one_lane scope ts e t w r size (λ j lj. refl) et el site.params (record { place = alone_is_place c s b ts words m site single ty; params = sym a.params; types = site.types; code = finished s.code.routine w (Some r) fin }) fin tr a)
   where
     site : IsCodeSite c s ts
     site = code_site c s ts a.types w (Some r) mach fin a.params a.regs

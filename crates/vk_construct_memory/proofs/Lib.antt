@@ -1,0 +1,4 @@
+pub mod Giving
+pub mod Loading
+pub mod Nodes
+pub mod Storing

@@ -1,0 +1,4 @@
+//! Pointers, loads and stores as code that is appended.
+#![tactic(auto)]
+
+pub mod laws;
