@@ -15,6 +15,14 @@ use Rattle.vk_runs.specs.Logs.{Grows}
 use Rattle.vk_steps.specs.declared.place.Place.{Place}
 use Rattle.vk_perform.proofs.Growing.{GrowsLogs, turn_grows}
 
+-- ---- what is told of a frame, by the lanes of its place
+
+pub alive : (lanes n m : ℕ) (l : ℕ → LaneState) (r b : Bool) → n ≡ lanes → r ≡ any_live n m l → r ≡ b → any_live lanes m l ≡ b
+alive lanes n m l r b e f h = ap (λ k. any_live k m l) (sym e) ∙ (sym f ∙ h)
+
+pub lowest_at : (lanes n : ℕ) (stops : ℕ → Option Stop) (low : Option Stop) → n ≡ lanes → low ≡ lowest_stop n stops → low ≡ lowest_stop lanes stops
+lowest_at lanes n stops low e h = h ∙ ap (λ k. lowest_stop k stops) e
+
 -- ---- for all lanes
 
 -- what all lanes take of the call's frame

@@ -23,6 +23,16 @@ use Rattle.vk_calls.specs.Fetched.{IsFetched, IsPart, IsPlain}
 use Rattle.vk_calls.proofs.Parts.{drop-at, drop-drop}
 use Rattle.vk_perform.specs.Performed.{performed, size_of}
 
+-- ---- numbers
+
+pub less_0 : (k : ℕ) → k ≡ k - 0
+less_0 k = omega arith
+
+pub none_left : (k : ℕ) → k ≤ 0 → k ≡ 0
+none_left k h = omega (arith, h)
+
+-- ---- the list
+
 pub run_zero : (s : Site) (is : List Instr) (w : World) → run s is zero zero w ≡ w
 run_zero s [] w = refl
 run_zero s (i ∷ is) w = refl

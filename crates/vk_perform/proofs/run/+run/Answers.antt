@@ -5,7 +5,7 @@ use Rattle.vk_code.specs.declared.code.LoopSite.{LoopSite}
 use Rattle.vk_code.specs.Listing.{call_site_of, simd_site_of}
 use Rattle.vk_object.specs.Lane.{LaneState, View, is_live, number_at}
 use Rattle.vk_object.specs.Memory.{Calls, logged}
-use Rattle.vk_object.specs.Machine.{Called, Ran, Target, World, again, any_live, body_args, call_one, calls_in_turn, enters, first_lane, first_live, guard_holds, in_lane, iterations, lane_args, lowest_stop, run, runs_entry, Simd, simd_of, sweep}
+use Rattle.vk_object.specs.Machine.{Called, Ran, Target, World, again, any_live, body_args, call_one, calls_in_turn, enters, first_lane, first_live, guard_holds, in_lane, iterations, lane_args, run, runs_entry, Simd, simd_of, sweep}
 use Rattle.vk_frames.specs.Frames.{lanes_of}
 use Rattle.vk_steps.specs.Places.{entry, listing, regs, site}
 use Rattle.std.specs.declared.alloc.Global.{Global}
@@ -21,24 +21,12 @@ use Rattle.vk_runs.proofs.Logs.{grows_same}
 use Rattle.vk_calls.specs.Fetched.{IsPart}
 use Rattle.vk_calls.specs.declared.fetch.Fetched.{Fetched}
 use Rattle.vk_perform.specs.Performed.{performed}
-use Rattle.vk_perform.proofs.Calling.{a_stop, call_breaks, call_goes, call_none, call_one_breaks, call_one_goes, call_one_none, first_below, no_stop, target_all, target_each, turn_breaks, turn_goes}
+use Rattle.vk_perform.proofs.Calling.{a_stop, alive, call_breaks, call_goes, call_none, call_one_breaks, call_one_goes, call_one_none, first_below, lowest_at, no_stop, target_all, target_each, turn_breaks, turn_goes}
 use Rattle.vk_perform.proofs.Fitting.{all_taken, fits_all_taken, fits_counted, fits_out, fits_taken, has_a_lane, loop_mask, loop_there, whole}
 use Rattle.vk_perform.proofs.Growing.{GrowsLogs, again_grows, call_one_grows, calls_grow, run_grows, sweep_grows}
 use Rattle.vk_perform.proofs.Looping.{calls_as, calls_broken, chunk_asked, chunk_breaks, chunk_stops, loop_breaks, loop_goes, loop_none, rest_asked, rest_runs, slow_asked, slow_calls}
-use Rattle.vk_perform.proofs.Running.{again_done, again_more, again_out, part_left, run_fetched, run_zero, runs_counted}
+use Rattle.vk_perform.proofs.Running.{again_done, again_more, again_out, less_0, none_left, part_left, run_fetched, run_zero, runs_counted}
 use Rattle.vk_perform.proofs.run.+run.Goals as goal
-
-alive : (lanes n m : ℕ) (l : ℕ → LaneState) (r b : Bool) → n ≡ lanes → r ≡ any_live n m l → r ≡ b → any_live lanes m l ≡ b
-alive lanes n m l r b e f h = ap (λ k. any_live k m l) (sym e) ∙ (sym f ∙ h)
-
-less_0 : (k : ℕ) → k ≡ k - 0
-less_0 k = omega arith
-
-none_left : (k : ℕ) → k ≤ 0 → k ≡ 0
-none_left k h = omega (arith, h)
-
-lowest_at : (lanes n : ℕ) (stops : ℕ → Option Stop) (low : Option Stop) → n ≡ lanes → low ≡ lowest_stop n stops → low ≡ lowest_stop lanes stops
-lowest_at lanes n stops low e h = h ∙ ap (λ k. lowest_stop k stops) e
 
 pub repeat_block-loop-init : goal.repeat_block-loop-init
 repeat_block-loop-init g n c = record {
