@@ -1,0 +1,4 @@
+pub mod Calls
+pub mod Discard
+pub mod Given
+pub mod Places

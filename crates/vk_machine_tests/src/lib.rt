@@ -1,0 +1,7 @@
+//! Tests of the machine on small images.
+#![tactic(auto)]
+
+#[cfg(test)]
+mod images;
+#[cfg(test)]
+mod simd_loops;

@@ -1,0 +1,6 @@
+//! The machine that runs the entries of an image.
+#![tactic(auto)]
+
+pub mod handing;
+pub mod locals;
+pub mod run;
