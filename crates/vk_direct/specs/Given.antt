@@ -1,5 +1,5 @@
 -- What a call from outside gives.
-use Rattle.std.specs.Prelude.{◌≡◌, ℕ, ◌+◌, IsTrue, ◌++◌, Option, Result, Ok, Err}
+use Rattle.std.specs.Prelude.{◌≡◌, ℕ, ◌+◌, Bool, ◌&&◌, IsTrue, ◌++◌, Option, is_none, Result, Ok, Err}
 use Rattle.vk_io.specs.declared.outside.Outside.{Outside}
 use Rattle.vk_io.specs.declared.outside.Outside.TheVariants.{Failed, Memory as NoMemory}
 use Rattle.vk_io.specs.Counts.{Rose}
@@ -8,6 +8,10 @@ use Rattle.vk_object.specs.Lane.{LaneState}
 use Rattle.vk_object.specs.Machine.{Given, word_in}
 use Rattle.vk_object.specs.Memory.{calls_of}
 use Rattle.vk_access.specs.Outer.{Outer, text_of, told}
+
+-- the lane was on, and did not stop
+abbrev pub ends_on : (ℕ → Bool) → (ℕ → LaneState) → ℕ → Bool
+ends_on on lane j = on j && is_none (lane j).stop
 
 -- from a to b a call was made that gives g: its cells are there, its calls were counted, and its lines were put
 pub record Leaves (g : Given) (a b : Outer) : Type 0 where

@@ -5,6 +5,7 @@ pub mod call;
 pub mod discard;
 pub mod place;
 pub mod taken;
+pub mod taking;
 
 pub use call::DirectCall;
 pub use discard::Discard;

@@ -5,6 +5,7 @@ ghost use Rattle.std.specs.Prelude.{◌≡◌, ◌+◌, ◌*◌, ◌^◌, ◌<�
 use std::alloc::Global;
 use vk_access::Store;
 use vk_direct::place::place_of;
+use vk_direct::taking::takes_call;
 use vk_direct::{DirectCall, Discard};
 use vk_fresh::room::room;
 use vk_fresh::stores::first_store;
@@ -89,6 +90,12 @@ impl Machine {
         let Ok(()) = ran else {
             unreachable!();
         };
+    }
+
+    /// Whether an entry may be called in so many lanes on these words: for each parameter one canonical word for each lane, one
+    /// parameter after another.
+    pub fn takes(&self, entry: usize, lanes: usize, args: &[Word]) -> bool {
+        takes_call(&self.image, entry, lanes, args)
     }
 
     /// How often an entry was called. The count stays at its last value.

@@ -4,4 +4,6 @@
 #[cfg(test)]
 mod images;
 #[cfg(test)]
+mod operations;
+#[cfg(test)]
 mod simd_loops;

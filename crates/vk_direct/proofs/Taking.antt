@@ -1,0 +1,69 @@
+-- What words are where an entry may be called on them.
+use Rattle.std.proofs.Common.{◌≡◌, ℕ, zero, suc, ◌+◌, ◌-◌, ◌*◌, ◌^◌, ◌<◌, ◌≤◌, ◌==◌, nat_le, nat_lt, Bool, true, false, ◌&&◌, List, [], ◌∷◌, length, take, drop, get_or, Option, Some, None, refl, ap, sym, subst, ◌∙◌, arith, length-drop, length-take, get_or-drop, get_or-take}
+use Rattle.std.specs.Prelude.{slice_get}
+use Rattle.std.specs.List.{list_all}
+use Rattle.std.proofs.lemmas.Bool.{eqb-true, false≢true, leb-true, ltb-true}
+use Rattle.std.proofs.lemmas.Option.{none-some}
+use Rattle.vk_types.specs.declared.types.Ty.{Ty}
+use Rattle.vk_types.specs.declared.types.Word.{Word}
+use Rattle.vk_types.specs.Formats.{type_number}
+use Rattle.vk_kinds.specs.declared.heads.CType.{CType}
+use Rattle.vk_kinds.specs.declared.heads.CType.TheVariants.{Void, Int, Ptr}
+use Rattle.vk_kinds.specs.Types.{ctype_number}
+use Rattle.vk_code.specs.Listing.{Listing, reg_type}
+use Rattle.vk_code.specs.Tests.{holds}
+use Rattle.vk_code.specs.Valid.{is_canonical}
+use Rattle.vk_code.proofs.Faults.{and_left, and_right}
+use Rattle.vk_object.specs.Images.{code_of}
+use Rattle.vk_object.specs.Tables.{EntryLists, Tables}
+use Rattle.vk_frames.specs.Rows.{pattern_at, place_of}
+use Rattle.vk_runs.specs.Words.{AreArguments, IsWordOf}
+use Rattle.vk_runs.proofs.Reached.{holds_at}
+use Rattle.vk_runs.proofs.Words.{at_number, no_integer}
+use Rattle.vk_direct.specs.Calls.{given_words}
+use Rattle.vk_direct.specs.Taking.{are_words_of, is_word_of, takes_call, takes_words}
+
+-- ---- one type
+
+typed : (t : CType) (w : Word) → is_word_of t w ≡ true → IsWordOf (ctype_number t) w.0
+typed Void w h = absurd (false≢true h)
+typed (Int t) w h = at_number (type_number t) t w.0 refl h
+typed (Ptr I8 written) w h = no_integer _ w.0 (omega arith)
+
+all_words : (t : CType) (words : List Word) (n j : ℕ) → list_all (is_word_of t) (take n words) ≡ true → j < n → n ≤ length words → IsWordOf (ctype_number t) (pattern_at words j)
+all_words t [] zero j h l m = absurd (omega (arith, l))
+all_words t [] (suc n) j h l m = absurd (omega (arith, m))
+all_words t (w ∷ words) zero j h l m = absurd (omega (arith, l))
+all_words t (w ∷ words) (suc n) zero h l m = typed t w (and_left (is_word_of t w) (list_all (is_word_of t) (take n words)) h)
+all_words t (w ∷ words) (suc n) (suc j) h l m = all_words t words n j (and_right (is_word_of t w) (list_all (is_word_of t) (take n words)) h) (omega (arith, l)) (omega (arith, m))
+
+-- ---- all types
+
+pub words_length : (lanes : ℕ) (types : List CType) (words : List Word) → are_words_of lanes types words ≡ true → length words ≡ length types * lanes
+words_length lanes [] words h = eqb-true (length words) 0 h ∙ none lanes
+  where
+    none : (lanes : ℕ) → 0 ≡ 0 * lanes
+    none lanes = omega arith
+words_length lanes (t ∷ ts) words h =
+    let enough : lanes ≤ length words = leb-true lanes (length words) (and_left (nat_le lanes (length words)) (list_all (is_word_of t) (take lanes words)) (and_left (nat_le lanes (length words) && list_all (is_word_of t) (take lanes words)) (are_words_of lanes ts (drop lanes words)) h)) in
+    let rest : length (drop lanes words) ≡ length ts * lanes = words_length lanes ts (drop lanes words) (and_right (nat_le lanes (length words) && list_all (is_word_of t) (take lanes words)) (are_words_of lanes ts (drop lanes words)) h) in
+    more lanes (length words) (length ts) enough (sym (length-drop lanes words) ∙ rest)
+  where
+    more : (l n k : ℕ) → l ≤ n → n - l ≡ k * l → n ≡ suc k * l
+    more l n k e r = grind arith
+
+pub word_typed : (lanes : ℕ) (types : List CType) (words : List Word) → are_words_of lanes types words ≡ true → (p j : ℕ) → p < length types → j < lanes → IsWordOf (reg_type types p) (given_words lanes words p j)
+word_typed lanes [] words h p j l m = absurd (omega (arith, l))
+word_typed lanes (t ∷ ts) words h zero j l m =
+    let both = and_left (nat_le lanes (length words) && list_all (is_word_of t) (take lanes words)) (are_words_of lanes ts (drop lanes words)) h in
+    let enough : lanes ≤ length words = leb-true lanes (length words) (and_left (nat_le lanes (length words)) (list_all (is_word_of t) (take lanes words)) both) in
+    subst (λ k. IsWordOf (ctype_number t) (pattern_at words k)) (first lanes j) (all_words t words lanes j (and_right (nat_le lanes (length words)) (list_all (is_word_of t) (take lanes words)) both) m enough)
+  where
+    first : (lanes j : ℕ) → j ≡ 0 * lanes + j
+    first lanes j = omega arith
+word_typed lanes (t ∷ ts) words h (suc p) j l m =
+    subst (λ w. IsWordOf (reg_type ts p) w) (ap (λ (w : Word). w.0) (get_or-drop lanes words (p * lanes + j) (record { 0 = 0 })) ∙ ap (pattern_at words) (next lanes p j))
+    (word_typed lanes ts (drop lanes words) (and_right (nat_le lanes (length words) && list_all (is_word_of t) (take lanes words)) (are_words_of lanes ts (drop lanes words)) h) p j (omega (arith, l)) m)
+  where
+    next : (lanes p j : ℕ) → lanes + (p * lanes + j) ≡ suc p * lanes + j
+    next lanes p j = grind arith
