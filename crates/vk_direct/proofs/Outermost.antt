@@ -12,7 +12,7 @@ use Rattle.vk_steps.specs.Places.{called_cells}
 
 -- ---- chains from each entry on
 
-number_in : (k n i : ℕ) → i < n → slice_get (range_with_len k n) i ≡ Some (k + i)
+pub number_in : (k n i : ℕ) → i < n → slice_get (range_with_len k n) i ≡ Some (k + i)
 number_in k zero i h = absurd (omega (arith, h))
 number_in k (suc n) zero h = ap Some (omega arith)
 number_in k (suc n) (suc i) h = number_in (k + 1) n i (omega (arith, h)) ∙ ap Some (next k i)

@@ -13,6 +13,10 @@ use Rattle.vk_access.specs.Outer.{Outer, text_of, told}
 abbrev pub ends_on : (ℕ → Bool) → (ℕ → LaneState) → ℕ → Bool
 ends_on on lane j = on j && is_none (lane j).stop
 
+-- the lane was on, and g does not stop it
+abbrev pub gives_on : (ℕ → Bool) → Given → ℕ → Bool
+gives_on on g j = on j && is_none (g.stop j)
+
 -- from a to b a call was made that gives g: its cells are there, its calls were counted, and its lines were put
 pub record Leaves (g : Given) (a b : Outer) : Type 0 where
   pub cells : b.cells ≡ g.mem.cells

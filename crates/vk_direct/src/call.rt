@@ -1,17 +1,19 @@
 // The first frame of a call from outside.
 
-ghost use Rattle.std.specs.Prelude.{◌≡◌, ◌≤◌, Some, length};
+ghost use Rattle.std.specs.Prelude.{◌≡◌, Some, length, true};
 ghost use Rattle.vk_lanes.specs.Masks.{is_on, lane_count};
 ghost use Rattle.vk_object.specs.Images.{frame_cells};
 ghost use Rattle.vk_object.specs.Machine.{first_lane};
 ghost use Rattle.vk_frames.specs.Frames.{lanes_of};
-ghost use Rattle.vk_runs.specs.Words.{AreArguments};
-ghost use Rattle.vk_steps.specs.Places.{FitsPlace, IsSound, entry, listing};
-ghost use Rattle.vk_direct.specs.Calls.{HasWordsFor, given_words};
+ghost use Rattle.vk_steps.specs.Places.{FitsPlace, entry, image_tables, listing};
+ghost use Rattle.vk_direct.specs.Calls.{HasWordsFor, IsEntry, given_words};
+ghost use Rattle.vk_direct.specs.Taking.{takes_call};
 
+use crate::place::place_of;
 use vk_entries::opening::frame_of;
 use vk_frames::Frame;
 use vk_lanes::LaneMask;
+use vk_object::Image;
 use vk_passing::arguments::{Arguments, fill};
 use vk_steps::Place;
 use vk_types::Word;
@@ -45,12 +47,32 @@ impl Arguments for DirectCall<'_> {
     }
 }
 
+/// The call of an entry from outside, in the lanes of a mask and on these words.
+pub fn direct_call<'a>(
+    image: &'a Image,
+    entry: usize,
+    turns: u32,
+    mask: &'a LaneMask,
+    words: &'a [Word],
+) -> DirectCall<'a>
+    requires { takes_call (image_tables image.now) entry (lane_count mask.now) words.now ≡ true }
+    ensures entry { IsEntry result }
+    ensures image { result.place.image.now ≡ image.now }
+    ensures number { result.place.number ≡ entry }
+    ensures turns { result.place.turns ≡ turns }
+    ensures mask { result.mask.now ≡ mask.now }
+    ensures words { result.words.now ≡ words.now }
+{
+    DirectCall {
+        place: place_of(image, entry as u32, turns),
+        mask,
+        words,
+    }
+}
+
 /// The first frame of a call from outside, in these words.
 pub fn open<'a>(call: &DirectCall<'_>, words: &'a mut [Word]) -> Frame<'a>
-    requires sound { IsSound call.now.place }
-    requires good { HasWordsFor call.now }
-    requires lanes { lane_count call.now.mask.now ≡ (entry call.now.place).lanes }
-    requires canonical { AreArguments (entry call.now.place).lanes (listing call.now.place) (given_words (lane_count call.now.mask.now) call.now.words.now) }
+    requires entry { IsEntry call.now }
     requires words { length words.old ≡ frame_cells (entry call.now.place) (Some (listing call.now.place)) }
     ensures fits { FitsPlace call.now.place result }
     ensures lanes { lanes_of result ≡ first_lane (entry call.now.place).lanes (listing call.now.place).routine.params (given_words (lane_count call.now.mask.now) call.now.words.now) (is_on call.now.mask.now) }

@@ -60,12 +60,7 @@ fn are_words_of(types: &[CType], lanes: usize, words: &[Word]) -> bool
 fn are_all(ty: CType, words: &[Word]) -> bool
     ensures { result ≡ list_all (is_word_of ty) words.now }
 {
-    for word in words {
-        if !is_word_of(ty, *word) {
-            return false;
-        }
-    }
-    true
+    words.iter().all(|word| is_word_of(ty, *word))
 }
 
 fn is_word_of(ty: CType, word: Word) -> bool

@@ -1,10 +1,10 @@
 -- The longest chain of calls of an image.
-use Rattle.std.proofs.Common.{◌≡◌, ℕ, zero, suc, ◌+◌, ◌<◌, ◌≤◌, max, nat_le, sum, Bool, true, ◌&&◌, List, [], ◌∷◌, ◌++◌, length, map, take, get_or, refl, ap, ap₂, sym, ◌∙◌, arith}
+use Rattle.std.proofs.Common.{◌≡◌, ℕ, suc, ◌+◌, ◌<◌, ◌≤◌, max, nat_le, sum, Bool, true, ◌&&◌, List, [], ◌∷◌, ◌++◌, length, map, take, get_or, refl, ap, ap₂, sym, ◌∙◌, arith}
 use Rattle.std.specs.List.{list_all, range_with_len}
 use Rattle.std.specs.Prelude.{slice_get}
 use Rattle.std.specs.Option.{unwrap_or}
 use Rattle.std.proofs.lemmas.Bool.{leb-true}
-use Rattle.std.proofs.lemmas.List.{take_more}
+use Rattle.std.proofs.lemmas.List.{map-append, take_more}
 use Rattle.vk_code.proofs.Faults.{and_left, and_right}
 use Rattle.vk_object.specs.Images.{array_before, cells_of, chain_cells, entry_before, entry_numbers, greatest, is_array, is_code, is_entry, is_image, is_letter, is_main, is_row, is_some_entry, is_vl, is_within}
 use Rattle.vk_object.specs.Tables.{ArrayLists, Tables}
@@ -21,7 +21,7 @@ pub record ImageParts (image : Tables) : Type 0 where
 pub image_parts : (image : Tables) → is_image image ≡ true → ImageParts image
 image_parts image h =
     let p = parts (is_letter image.target image.isa) (is_vl image.isa image.vl) (list_all is_array image.arrays) (ascend array_before image.arrays) (list_all (is_row image) image.entries) (ascend entry_before image.entries)
-      (is_some_entry image image.main) (list_all (is_code image) image.codes) (list_all (is_entry image) image.entries) (is_main image image.main) (list_all (is_within image 64) (entry_numbers image)) (nat_le (cells_of image) 33554432) h in
+    (is_some_entry image image.main) (list_all (is_code image) image.codes) (list_all (is_entry image) image.entries) (is_main image image.main) (list_all (is_within image 64) (entry_numbers image)) (nat_le (cells_of image) 33554432) h in
     record { arrays = p.0; cells = leb-true (cells_of image) 33554432 p.1 }
   where
     parts : (a b c d e f g h i j k l : Bool) → (a && b && c && d && e && f && g && h && i && j && k && l) ≡ true → (c ≡ true) × (l ≡ true)
@@ -42,6 +42,11 @@ greatest_more (x ∷ xs) y = ap (max x) (greatest_more xs y) ∙ max_on x (great
 
 pub greatest_next : (xs : List ℕ) (i d : ℕ) → i < length xs → greatest (take (i + 1) xs) ≡ max (greatest (take i xs)) (get_or xs i d)
 greatest_next xs i d h = ap greatest (take_more xs i d h) ∙ greatest_more (take i xs) (get_or xs i d)
+
+-- a list that is made of another one, with one member more
+pub map_next : {A B : Type 0} (f : A → B) (xs : List A) (ys zs : List B) (i : ℕ) (d : A) (y : B) → i < length xs → ys ≡ map f (take i xs) → zs ≡ ys ++ y ∷ [] → y ≡ f (get_or xs i d) → zs ≡ map f (take (i + 1) xs)
+map_next f xs ys zs i d y h e g k =
+    g ∙ (ap₂ (λ l z. l ++ z ∷ []) e k ∙ (sym (map-append f (take i xs) (get_or xs i d ∷ [])) ∙ ap (map f) (sym (take_more xs i d h))))
 
 greatest_capped : (f : ℕ → ℕ) (xs : List ℕ) → greatest (map (λ n. capped (f n)) xs) ≡ capped (greatest (map f xs))
 greatest_capped f [] = refl

@@ -1,5 +1,5 @@
 -- Room for the frames of calls.
-use Rattle.std.specs.Prelude.{ℕ, List, map}
+use Rattle.std.specs.Prelude.{ℕ, map}
 use Rattle.vk_object.specs.declared.image.Image.{Image}
 use Rattle.vk_object.specs.declared.tables.ImageTables.{ImageTables}
 use Rattle.vk_object.specs.Images.{chain_cells, entry_numbers, greatest}

@@ -30,7 +30,7 @@ fn chains(alloc: Global, image: &Image) -> Result<Vec<u64>, AllocError>
     ensures length { IfOk result (λ row. length row.items ≡ length image.now.entries.items) }
 {
     let mut row = Vec::new(alloc);
-    for _ in 0..MAX_CHAIN - 1 {
+    for depth in 0..MAX_CHAIN - 1 {
         row = callers(alloc, image, &row)?;
     }
     callers(alloc, image, &row)

@@ -1,19 +1,19 @@
 // A call of an entry from outside.
 
-ghost use Rattle.std.specs.Prelude.{◌≡◌, ◌<◌, ◌≤◌, ℕ, cond, ◌&&◌, is_none, length, None, slice_index_or, IsOk};
+ghost use Rattle.std.specs.Prelude.{◌≡◌, ◌+◌, ◌<◌, ◌≤◌, ℕ, IsOk, None, length, slice_index, slice_index_or};
+ghost use Rattle.vk_lanes.specs.Kernels.{Writes};
 ghost use Rattle.vk_lanes.specs.Masks.{is_on, lane_count};
-ghost use Rattle.vk_frames.specs.Rows.{pattern_at};
 ghost use Rattle.vk_object.specs.Images.{chain_cells};
-ghost use Rattle.vk_runs.specs.Words.{AreArguments};
-ghost use Rattle.vk_steps.specs.Places.{entry, image_tables, listing};
-ghost use Rattle.vk_access.specs.Outer.{outer_of};
+ghost use Rattle.vk_steps.specs.Places.{tables};
+ghost use Rattle.vk_access.specs.Cells.{cells_in};
+ghost use Rattle.vk_object.specs.Memory.{calls_of};
+ghost use Rattle.vk_access.specs.Outer.{outer_of, told};
 ghost use Rattle.vk_access.specs.Stores.{FitsStore};
-ghost use Rattle.vk_direct.specs.Calls.{HasWordsFor, given_words};
-ghost use Rattle.vk_direct.specs.Given.{Calls};
-ghost use Rattle.vk_machine.specs.Entered.{IsEntry, entered};
+ghost use Rattle.vk_direct.specs.Calls.{IsEntry, entered};
+ghost use Rattle.vk_direct.specs.Given.{Calls, gives_on};
 
 use vk_access::Store;
-use vk_direct::DirectCall;
+use vk_direct::{DirectCall, Discard};
 use vk_direct::call::open;
 use vk_direct::taken::{take_results, take_stops};
 use vk_entries::opening::frame_size;
@@ -21,7 +21,8 @@ use vk_io::{Outside, Sink};
 use vk_perform::run::enter;
 use vk_types::{Stop, Word};
 
-/// Calls an entry from outside: its results and stops are written where it ends.
+/// Calls an entry from outside. Where it ends its results and stops are written: a result in each lane that is on and does not stop,
+/// and for each lane its stop or that it has none.
 pub fn call_entry<O: Sink>(
     call: &DirectCall<'_>,
     memory: &mut Store,
@@ -32,18 +33,44 @@ pub fn call_entry<O: Sink>(
 ) -> Result<(), Outside>
     requires entry { IsEntry call.now }
     requires store { FitsStore call.now.place.image.now memory.old }
-    requires room { chain_cells (image_tables call.now.place.image.now) 64 call.now.place.number ≤ length frames.old }
+    requires room { chain_cells (tables call.now.place) 64 call.now.place.number ≤ length frames.old }
     requires results { length results.old ≡ lane_count call.now.mask.now }
     requires stops { length stops.old ≡ lane_count call.now.mask.now }
     ensures store { FitsStore call.now.place.image.now memory.new }
-    ensures calls { Calls result (entered call.now memory.old) (outer_of memory.old (O.state out.old)) (outer_of memory.new (O.state out.new)) }
-    ensures results { IsOk result → (j : ℕ) → pattern_at results.new j ≡ cond (is_on call.now.mask.now j && is_none ((entered call.now memory.old).stop j)) ((entered call.now memory.old).value j) (pattern_at results.old j) }
-    ensures stops { IsOk result → (j : ℕ) → j < lane_count call.now.mask.now → slice_index_or stops.new j None ≡ (entered call.now memory.old).stop j }
+    ensures calls { Calls result (entered call.now (cells_in memory.old.cells.items)) (outer_of memory.old (O.state out.old)) (outer_of memory.new (O.state out.new)) }
+    ensures results { IsOk result → Writes (gives_on (is_on call.now.mask.now) (entered call.now (cells_in memory.old.cells.items))) (entered call.now (cells_in memory.old.cells.items)).value results.old results.new }
+    ensures stops { IsOk result → (j : ℕ) → j < lane_count call.now.mask.now → slice_index_or stops.new j None ≡ (entered call.now (cells_in memory.old.cells.items)).stop j }
 {
     let (words, rest) = frames.split_at_mut(frame_size(&call.place));
     let mut frame = open(call, words);
-    enter(&call.place, memory, out, &mut frame, rest)?;
+    let ran = enter(&call.place, memory, out, &mut frame, rest);
     take_results(&frame, call.place.code.result, call.mask, results);
     take_stops(&frame, stops);
-    Ok(())
+    ran
+}
+
+/// The same, where what the entry prints goes nowhere: this never fails.
+pub fn call_silently(
+    call: &DirectCall<'_>,
+    memory: &mut Store,
+    frames: &mut [Word],
+    results: &mut [Word],
+    stops: &mut [Option<Stop>],
+)
+    requires entry { IsEntry call.now }
+    requires store { FitsStore call.now.place.image.now memory.old }
+    requires room { chain_cells (tables call.now.place) 64 call.now.place.number ≤ length frames.old }
+    requires results { length results.old ≡ lane_count call.now.mask.now }
+    requires stops { length stops.old ≡ lane_count call.now.mask.now }
+    ensures store { FitsStore call.now.place.image.now memory.new }
+    ensures cells { cells_in memory.new.cells.items ≡ (entered call.now (cells_in memory.old.cells.items)).mem.cells }
+    ensures counts { (e : ℕ) → told (slice_index memory.new.counts.items e) ≡ told (told (slice_index memory.old.counts.items e) + calls_of e (entered call.now (cells_in memory.old.cells.items)).mem.log) }
+    ensures results { Writes (gives_on (is_on call.now.mask.now) (entered call.now (cells_in memory.old.cells.items))) (entered call.now (cells_in memory.old.cells.items)).value results.old results.new }
+    ensures stops { (j : ℕ) → j < lane_count call.now.mask.now → slice_index_or stops.new j None ≡ (entered call.now (cells_in memory.old.cells.items)).stop j }
+{
+    let mut out = Discard::new();
+    let ran = call_entry(call, memory, frames, &mut out, results, stops);
+    let Ok(()) = ran else {
+        unreachable!();
+    };
 }

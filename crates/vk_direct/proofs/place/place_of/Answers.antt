@@ -18,8 +18,8 @@ index-requires c =
     let below : row.code < length image.codes.items = subst (λ k. row.code < k) (length-map image.codes.items listing_of) (code_there (image_tables image) image.valid c.args.number (entry_list_of row) got) in
     search rules
 
-pub returns : goal.returns
-returns c =
+pub returns-clause-outermost : goal.returns-clause-outermost
+returns-clause-outermost c =
     let image = c.args.image.now in
     let rows = image.entries.items in
     let codes = image.codes.items in
@@ -39,8 +39,6 @@ returns c =
         few = lanes_few (image_tables image) image.valid c.args.number (entry_list_of row) got;
         short = instrs_short (image_tables image) image.valid row.code (listing_of code) coded;
       };
-      image_is = refl;
-      number_is = refl;
       does = does_enter (image_tables image) c.args.turns 64 c.args.number (entry_list_of row) (listing_of code) deep.0 got coded;
       cells = chain_is (image_tables image) c.args.number (entry_list_of row) (listing_of code) got coded;
     }
