@@ -47,9 +47,9 @@ module _ (e : ℕ) (s : Site) (on : ℕ → Bool) (args : ℕ → ℕ → ℕ) (
     failed = h.failed;
     lean = h.lean;
     front = λ t.
-      let cut = h.front t [] in
-      let log : cut.events ≡ (enters e s on args (memory_of a [])).mem.log = sym cut.appended ∙ ap (λ (f : ℕ → LaneState). (runs_entry e s (world f (memory_of a []))).mem.log) first in
-      subst (λ (es : List Event). GrowsWithin a.sink.bytes b.sink.bytes (text_of es)) log cut.grown;
+        let cut = h.front t [] in
+        let log : cut.events ≡ (enters e s on args (memory_of a [])).mem.log = sym cut.appended ∙ ap (λ (f : ℕ → LaneState). (runs_entry e s (world f (memory_of a []))).mem.log) first in
+        subst (λ (es : List Event). GrowsWithin a.sink.bytes b.sink.bytes (text_of es)) log cut.grown;
   }
 
   pub calls : (r : Result (Unit {0}) Outside) (k : ℕ → LaneState) (a b : Outer) → Runs r l k a b (runs_entry e s) → Calls r (enters e s on args (memory_of a [])) a b

@@ -1,3 +1,4 @@
 pub mod Given
 pub mod Outermost
-mod Taken
+mod Results
+pub mod Words

@@ -13,12 +13,7 @@ use vk_lanes::LaneMask;
 use vk_types::{Stop, Word};
 
 /// Writes the result of each lane that is on and has not stopped; the others keep what they held.
-pub fn take_results(
-    frame: &Frame<'_>,
-    register: Option<u16>,
-    mask: &LaneMask,
-    results: &mut [Word],
-)
+pub fn take_results(frame: &Frame<'_>, register: Option<u16>, mask: &LaneMask, results: &mut [Word])
     requires fits { IsFrame frame.now }
     requires register { IfSome register (λ r. r < frame.now.registers) }
     requires mask { lane_count mask.now ≡ frame.now.lanes }

@@ -2,8 +2,12 @@
 #![tactic(auto)]
 
 #[cfg(test)]
+mod calls;
+#[cfg(test)]
 mod images;
 #[cfg(test)]
 mod operations;
+#[cfg(test)]
+mod prints;
 #[cfg(test)]
 mod simd_loops;

@@ -222,3 +222,41 @@ fn masks_choose_lanes(rt: HostRuntime) -> Result<(), Fail> {
     assert!(rt; first == MASKS.len());
     Ok(())
 }
+
+// n + .. + 1, while n is not 0.
+static LOOPS: [Row; 2] = [
+    Row {
+        lines: &[
+            (Const, 2, 0, 6, 0, 1),
+            (MaskOf, 0, 0, 1, 0, 0),
+            (Loop, 0, 1, 0, 0, 3 * X),
+            (Binary, 2, 1, 2, 2, 0),
+            (Binary, 2, 1, 0, 0, 6 + X),
+            (MaskOf, 0, 1, 1, 0, 0),
+        ],
+        results: [1, 3, 102, 10],
+        stops: GOES,
+    },
+    // from n + 3 on, lane 3 would make two turns more than the five that it may
+    Row {
+        lines: &[
+            (Const, 2, 0, 6, 0, 1),
+            (Const, 2, 0, 7, 0, 3),
+            (Binary, 2, 0, 0, 0, 7),
+            (MaskOf, 0, 0, 1, 0, 0),
+            (Loop, 0, 1, 0, 0, 3 * X),
+            (Binary, 2, 1, 2, 2, 0),
+            (Binary, 2, 1, 0, 0, 6 + X),
+            (MaskOf, 0, 1, 1, 0, 0),
+        ],
+        results: [10, 15, 102, 103],
+        stops: [None, None, None, Some(Stop::Turns)],
+    },
+];
+
+#[test]
+fn loops_go_on_while_a_lane_is_on(rt: HostRuntime) -> Result<(), Fail> {
+    let first = first_wrong(rt.alloc(), &LOOPS)?;
+    assert!(rt; first == LOOPS.len());
+    Ok(())
+}

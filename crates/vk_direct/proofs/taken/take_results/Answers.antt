@@ -1,4 +1,4 @@
-use Rattle.std.proofs.Common.{◌+◌, ◌&&◌, ap, arith, is_none}
+use Rattle.std.proofs.Common.{ℕ, ◌+◌, ◌&&◌, ap, arith, is_none, refl}
 use Rattle.vk_lanes.specs.Masks.{is_on}
 use Rattle.vk_lanes.proofs.Bits.{on_past}
 use Rattle.vk_lanes.proofs.Written.{joins, writes_all}
@@ -9,9 +9,9 @@ use Rattle.vk_direct.proofs.taken.take_results.Goals as goal
 
 pub loop-lane-preserved : goal.loop-lane-preserved
 loop-lane-preserved c =
-    let value = λ j. word_in c.args.register (lanes_of c.args.frame.now j) in
+    let value : ℕ → ℕ = λ j. word_in c.args.register (lanes_of c.args.frame.now j) in
     joins 0 c.loop-lane.lane (c.loop-lane.lane + 1) (ends_on (is_on c.args.mask.now) (lanes_of c.args.frame.now)) value value c.args.results.now c.loop-lane.results c.take_result.new.results
-    (omega arith) (omega arith) c.loop-lane.invariant c.take_result.ensures (λ j l h. Rattle.std.proofs.Common.refl)
+    (omega arith) (omega arith) c.loop-lane.invariant c.take_result.ensures (λ j l h. refl)
 
 pub returns : goal.returns
 returns c =

@@ -2,7 +2,7 @@
 use Rattle.std.proofs.Common.{◌≡◌, ℕ, zero, suc, ◌+◌, ◌-◌, ◌*◌, ◌^◌, ◌<◌, ◌≤◌, ◌==◌, min, nat_le, nat_lt, Bool, true, false, ◌&&◌, List, [], ◌∷◌, length, take, drop, get_or, Option, Some, None, refl, ap, sym, subst, ◌∙◌, arith, length-drop, length-take, get_or-drop, get_or-take}
 use Rattle.std.specs.Prelude.{slice_get}
 use Rattle.std.specs.List.{list_all}
-use Rattle.std.proofs.lemmas.Bool.{eqb-true, false≢true, leb-true, ltb-true}
+use Rattle.std.proofs.lemmas.Bool.{eqb-true, false≢true, leb-true, lt-leb, ltb-true}
 use Rattle.std.proofs.lemmas.Option.{slice_get_within}
 use Rattle.vk_types.specs.declared.types.Ty.{Ty}
 use Rattle.vk_types.specs.declared.types.Word.{Word}
@@ -45,6 +45,12 @@ all_words t (w ∷ words) (suc n) zero h l m = typed t w (and_left (is_word_of t
 all_words t (w ∷ words) (suc n) (suc j) h l m = all_words t words n j (and_right (is_word_of t w) (list_all (is_word_of t) (take n words)) h) (omega (arith, l)) (omega (arith, m))
 
 -- ---- all types
+
+-- a type without words for all lanes
+pub words_missing : (lanes : ℕ) (types : List CType) (rest : List Word) (i : ℕ) → i < length types → length rest < lanes → are_words_of lanes (drop i types) rest ≡ false
+words_missing lanes [] rest i h l = absurd (omega (arith, h))
+words_missing lanes (t ∷ ts) rest zero h l = ap (λ b. b && list_all (is_word_of t) (take lanes rest) && are_words_of lanes ts (drop lanes rest)) (lt-leb lanes (length rest) l)
+words_missing lanes (t ∷ ts) rest (suc i) h l = words_missing lanes ts rest i (omega (arith, h)) l
 
 pub words_length : (lanes : ℕ) (types : List CType) (words : List Word) → are_words_of lanes types words ≡ true → length words ≡ length types * lanes
 words_length lanes [] words h = eqb-true (length words) 0 h ∙ none lanes
@@ -92,7 +98,7 @@ taken_words x c lanes words e h =
       lanes_are = e;
       count = words_length lanes types words all ∙ ap (λ n. n * lanes) many;
       words_typed = λ p j l m. subst (λ n. IsWordOf n (given_words lanes words p j)) (front c.routine.regs c.routine.params p l)
-        (word_typed lanes types words all p j (subst (λ n. p < n) (sym many) l) (subst (λ n. j < n) (sym e) m));
+          (word_typed lanes types words all p j (subst (λ n. p < n) (sym many) l) (subst (λ n. j < n) (sym e) m));
     }
   where
     least : (m n : ℕ) → m ≤ n → min m n ≡ m
