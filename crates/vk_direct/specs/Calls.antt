@@ -25,5 +25,5 @@ pub record IsEntry (call : DirectCall) : Type 0 where
   pub typed : AreArguments (entry call.place).lanes (listing call.place) (given_words (lane_count call.mask.now) call.words.now)
 
 -- what the call gives by the image's run, from these cells and with an empty log
-abbrev pub entered : DirectCall → (ℕ → ℕ → ℕ) → Given
+unfoldable pub entered : DirectCall → (ℕ → ℕ → ℕ) → Given
 entered call cells = runs (tables call.place) call.place.turns call.place.number (is_on call.mask.now) (given_words (lane_count call.mask.now) call.words.now) (record { cells = cells; log = [] })

@@ -21,13 +21,13 @@ use vk_types::Word;
 /// A call from outside: where it runs, the lanes that are on, and for each parameter a word for each lane, one parameter after
 /// another.
 #[derive(Clone, Copy)]
-pub struct DirectCall<'a> {
+pub struct DirectCall<'a, 'b, 'c> {
     pub place: Place<'a>,
-    pub mask: &'a LaneMask,
-    pub words: &'a [Word],
+    pub mask: &'b LaneMask,
+    pub words: &'c [Word],
 }
 
-impl Arguments for DirectCall<'_> {
+impl Arguments for DirectCall<'_, '_, '_> {
     ghost good = { HasWordsFor };
 
     ghost params = { λ call. (listing call.place).routine.params };
@@ -48,13 +48,13 @@ impl Arguments for DirectCall<'_> {
 }
 
 /// The call of an entry from outside, in the lanes of a mask and on these words.
-pub fn direct_call<'a>(
+pub fn direct_call<'a, 'b, 'c>(
     image: &'a Image,
     entry: usize,
     turns: u32,
-    mask: &'a LaneMask,
-    words: &'a [Word],
-) -> DirectCall<'a>
+    mask: &'b LaneMask,
+    words: &'c [Word],
+) -> DirectCall<'a, 'b, 'c>
     requires { takes_call (image_tables image.now) entry (lane_count mask.now) words.now ≡ true }
     ensures entry { IsEntry result }
     ensures image { result.place.image.now ≡ image.now }
@@ -71,7 +71,7 @@ pub fn direct_call<'a>(
 }
 
 /// The first frame of a call from outside, in these words.
-pub fn open<'a>(call: &DirectCall<'_>, words: &'a mut [Word]) -> Frame<'a>
+pub fn open<'a>(call: &DirectCall<'_, '_, '_>, words: &'a mut [Word]) -> Frame<'a>
     requires entry { IsEntry call.now }
     requires words { length words.old ≡ frame_cells (entry call.now.place) (Some (listing call.now.place)) }
     ensures fits { FitsPlace call.now.place result }

@@ -1,3 +1,3 @@
 mod Ending
-mod Entering
+mod Gives
 mod Programs

@@ -2,24 +2,34 @@
 use Rattle.std.proofs.Common.{◌≡◌, ℕ, zero, suc, ◌+◌, ◌*◌, ◌^◌, ◌<◌, ◌≤◌, ◌==◌, max, nat_le, nat_lt, Bool, true, false, ◌&&◌, cond, List, [], ◌∷◌, length, map, take, replicate, Option, Some, None, refl, ap, ap₂, sym, subst, ◌∙◌, arith}
 use Rattle.std.specs.Prelude.{slice_get, slice_index}
 use Rattle.std.specs.List.{list_all}
+use Rattle.std.specs.Option.{option_map}
 use Rattle.std.proofs.Math.Nat.{le-max_left, le-max_right}
 use Rattle.std.proofs.lemmas.Bool.{eqb-true, false≢true, lt-ltb}
-use Rattle.std.proofs.lemmas.Option.{none-some, same_Some, slice_get-map}
+use Rattle.std.proofs.lemmas.Option.{none-some, same_Some, slice_get-map, slice_get_within}
 use Rattle.vk_kinds.specs.declared.heads.CType.{CType}
 use Rattle.vk_code.specs.Listing.{Listing}
 use Rattle.vk_code.specs.Tests.{holds}
 use Rattle.vk_code.proofs.Faults.{and_left, and_right}
+use Rattle.vk_object.specs.declared.image.Image.{Image}
 use Rattle.vk_object.specs.declared.tables.EntryKind.{EntryKind}
 use Rattle.vk_object.specs.declared.tables.EntryKind.TheVariants.{Ordinary, Scalar, N, M, Chunk, Rest}
 use Rattle.vk_object.specs.Images.{are_entries, array_before, cells_of, chain_cells, code_of, entry_before, entry_numbers, greatest, has_lanes, is_array, is_code, is_entry, is_entry_byte, is_image, is_letter, is_main, is_number_of, is_ordinary, is_row, is_some_entry, is_variant, is_vl, is_within, result_of}
 use Rattle.vk_object.specs.Parameters.{are_kinds}
-use Rattle.vk_object.specs.Tables.{EntryLists, Tables}
+use Rattle.vk_object.specs.Machine.{extent_of}
+use Rattle.vk_object.specs.Tables.{ArrayLists, EntryLists, Tables}
 use Rattle.vk_object.specs.Texts.{ascend, between}
 use Rattle.vk_runs.proofs.Reached.{all_at, holds_at, image_parts, row_lanes}
+use Rattle.vk_steps.specs.declared.place.Place.{Place}
+use Rattle.vk_steps.specs.Places.{IsSound, entry, image_tables, tables}
+use Rattle.vk_access.specs.declared.store.Store.{Store}
+use Rattle.vk_access.specs.Cells.{length_in}
+use Rattle.vk_access.specs.Outer.{told}
+use Rattle.vk_access.specs.Stores.{FitsStore}
 use Rattle.vk_calls.proofs.Callees.{holds_some}
 use Rattle.vk_fresh.specs.Room.{longest_chain}
 use Rattle.vk_direct.specs.Taking.{are_words_of, takes_call, takes_words}
 use Rattle.vk_direct.proofs.Outermost.{number_in}
+use Rattle.vk_machine.specs.Machines.{array_length}
 
 -- ---- room
 
@@ -33,6 +43,12 @@ chain_within image n l = at_most (chain_cells image 64) (entry_numbers image) n 
   where
     from : (n : ℕ) → 0 + n ≡ n
     from n = omega arith
+
+-- cells for an entry's frame and its calls
+pub call_room : (p : Place) (image : Image) (n : ℕ) → IsSound p → p.image.now ≡ image → n ≡ longest_chain (image_tables image) → chain_cells (tables p) 64 p.number ≤ n
+call_room p image n s h e =
+    subst (λ k. chain_cells (tables p) 64 p.number ≤ k) (ap (λ (i : Image). longest_chain (image_tables i)) h ∙ sym e)
+    (chain_within (tables p) p.number (slice_get_within (tables p).entries p.number (entry p) s.placed))
 
 -- ---- main
 
@@ -70,7 +86,7 @@ main_takes image h n m small =
     let c = holds_some is_main_code (code_of image x.0) (and_right (is_ordinary x.0.kind) (holds is_main_code (code_of image x.0)) x.2) in
     let none : c.0.routine.params ≡ 0 = eqb-true c.0.routine.params 0 (and_left (c.0.routine.params == 0) (result_of c.0 == 2) c.2) in
     let lanes : x.0.lanes ≡ 1 = one_lane x.0.kind x.0.lanes ordinary
-      (row_lanes image x.0 (between 1 4096 (length x.0.text)) (list_all is_entry_byte x.0.text) (has_lanes x.0.kind x.0.lanes) (is_number_of image.codes x.0.code) (cond (is_variant x.0.kind) (are_kinds x.0.params) (length x.0.params == 0)) (list_all (is_number_of image.entries) x.0.targets) (list_all (are_entries image) x.0.loops) (all_at (is_row image) image.entries (image_parts image h).rows_good n x.0 x.1)) in
+    (row_lanes image x.0 (between 1 4096 (length x.0.text)) (list_all is_entry_byte x.0.text) (has_lanes x.0.kind x.0.lanes) (is_number_of image.codes x.0.code) (cond (is_variant x.0.kind) (are_kinds x.0.params) (length x.0.params == 0)) (list_all (is_number_of image.entries) x.0.targets) (list_all (are_entries image) x.0.loops) (all_at (is_row image) image.entries (image_parts image h).rows_good n x.0 x.1)) in
     ap (λ b. b && holds (λ (y : EntryLists). (1 == y.lanes) && holds (takes_words 1 []) (code_of image y)) (slice_get image.entries n)) (lt-ltb n (2 ^ 32) small)
     ∙ (ap (holds (λ (y : EntryLists). (1 == y.lanes) && holds (takes_words 1 []) (code_of image y))) x.1
     ∙ (ap (λ k. (1 == k) && holds (takes_words 1 []) (code_of image x.0)) lanes
@@ -82,3 +98,19 @@ pub no_count : (n e : ℕ) → slice_index (replicate n 0) e ≡ 0
 no_count zero e = refl
 no_count (suc n) zero = refl
 no_count (suc n) (suc e) = no_count n e
+
+pub none_told : (counts : List ℕ) (n : ℕ) → counts ≡ replicate n 0 → (e : ℕ) → told (slice_index counts e) ≡ 0
+none_told counts n h e = ap (λ l. told (slice_index l e)) h ∙ (ap told (no_count n e) ∙ least)
+  where
+    least : told 0 ≡ 0
+    least = omega arith
+
+-- ---- elements
+
+-- an element of an array of the image is one of the machine's
+pub element_inside : (image : Image) (store : Store) (a i : ℕ) → FitsStore image store → i < array_length (image_tables image) a → i < length_in store.cells.items a
+element_inside image store a i h l = by (slice_get (image_tables image).arrays a) refl l
+  where
+    by : (o : Option ArrayLists) → slice_get (image_tables image).arrays a ≡ o → i < elim o as (λ _. ℕ) [ None ↦ 0 | Some x ↦ x.length ] → i < length_in store.cells.items a
+    by None e l = absurd (omega (arith, l))
+    by (Some x) e l = subst (λ n. i < n) (sym (h.lengths a (extent_of x) (slice_get-map extent_of (image_tables image).arrays a ∙ ap (option_map extent_of) e))) l

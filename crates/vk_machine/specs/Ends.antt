@@ -19,7 +19,7 @@ abbrev pub main_number : Option ℕ → ℕ
 main_number None = 0
 main_number (Some n) = n
 
-abbrev pub program : Tables → ℕ → Given
+unfoldable pub program : Tables → ℕ → Given
 program image turns = runs image turns (main_number image.main) (λ j. nat_lt j 1) (λ p j. 0) (first_memory image)
 
 -- how it ends, by the stop of its lane

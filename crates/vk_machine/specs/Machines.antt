@@ -38,5 +38,5 @@ pub record IsFresh (m : Machine) : Type 0 where
   pub counts_none : (e : ℕ) → count m e ≡ 0
 
 -- what a call of an entry gives by the image's run, from its cells and with an empty log
-abbrev pub called : Machine → ℕ → ℕ → LaneMask → List Word → Given
+unfoldable pub called : Machine → ℕ → ℕ → LaneMask → List Word → Given
 called m turns e mask args = runs (tables m) turns e (is_on mask) (given_words (lane_count mask) args) (record { cells = cells m; log = [] })

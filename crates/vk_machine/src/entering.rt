@@ -4,19 +4,21 @@ ghost use Rattle.std.specs.Prelude.{◌≡◌, ◌+◌, ◌<◌, ◌≤◌, ℕ,
 ghost use Rattle.vk_lanes.specs.Kernels.{Writes};
 ghost use Rattle.vk_lanes.specs.Masks.{is_on, lane_count};
 ghost use Rattle.vk_object.specs.Images.{chain_cells};
-ghost use Rattle.vk_steps.specs.Places.{tables};
+ghost use Rattle.vk_steps.specs.Places.{FitsPlace, called_cells, entry, tables};
 ghost use Rattle.vk_access.specs.Cells.{cells_in};
 ghost use Rattle.vk_object.specs.Memory.{calls_of};
 ghost use Rattle.vk_access.specs.Outer.{outer_of, told};
 ghost use Rattle.vk_access.specs.Stores.{FitsStore};
 ghost use Rattle.vk_direct.specs.Calls.{IsEntry, entered};
 ghost use Rattle.vk_direct.specs.Given.{Calls, gives_on};
+ghost use Rattle.vk_perform.specs.Ready.{IsReady};
 
 use vk_access::Store;
-use vk_direct::{DirectCall, Discard};
 use vk_direct::call::open;
 use vk_direct::taken::{take_results, take_stops};
+use vk_direct::{DirectCall, Discard};
 use vk_entries::opening::frame_size;
+use vk_frames::Frame;
 use vk_io::{Outside, Sink};
 use vk_perform::run::enter;
 use vk_types::{Stop, Word};
@@ -24,7 +26,7 @@ use vk_types::{Stop, Word};
 /// Calls an entry from outside. Where it ends its results and stops are written: a result in each lane that is on and does not stop,
 /// and for each lane its stop or that it has none.
 pub fn call_entry<O: Sink>(
-    call: &DirectCall<'_>,
+    call: &DirectCall<'_, '_, '_>,
     memory: &mut Store,
     frames: &mut [Word],
     out: &mut O,
@@ -43,15 +45,25 @@ pub fn call_entry<O: Sink>(
 {
     let (words, rest) = frames.split_at_mut(frame_size(&call.place));
     let mut frame = open(call, words);
+    hand_over(call, memory, &frame, rest);
     let ran = enter(&call.place, memory, out, &mut frame, rest);
     take_results(&frame, call.place.code.result, call.mask, results);
     take_stops(&frame, stops);
     ran
 }
 
+// The entry has what its code needs.
+fn hand_over(call: &DirectCall<'_, '_, '_>, memory: &Store, frame: &Frame<'_>, rest: &[Word])
+    requires entry { IsEntry call.now }
+    requires fits { FitsPlace call.now.place frame.now }
+    requires store { FitsStore call.now.place.image.now memory.now }
+    requires room { called_cells (tables call.now.place) call.now.place.depth (entry call.now.place) ≤ length rest.now }
+    ensures { IsReady call.now.place frame.now memory.now rest.now }
+{}
+
 /// The same, where what the entry prints goes nowhere: this never fails.
 pub fn call_silently(
-    call: &DirectCall<'_>,
+    call: &DirectCall<'_, '_, '_>,
     memory: &mut Store,
     frames: &mut [Word],
     results: &mut [Word],
@@ -70,6 +82,13 @@ pub fn call_silently(
 {
     let mut out = Discard::new();
     let ran = call_entry(call, memory, frames, &mut out, results, stops);
+    is_done(ran);
+}
+
+// A call that did not fail.
+fn is_done(ran: Result<(), Outside>)
+    requires { IsOk ran }
+{
     let Ok(()) = ran else {
         unreachable!();
     };

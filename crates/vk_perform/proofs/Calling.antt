@@ -1,6 +1,6 @@
 -- Calls for all lanes and for one, and calls in turn.
-use Rattle.std.proofs.Common.{◌≡◌, ℕ, zero, suc, ◌+◌, ◌-◌, ◌<◌, ◌==◌, ◌||◌, nat_lt, refl, ap, arith, sym, ◌∙◌, subst, cond, true, false, Bool, Option, Some, None, Result, Ok, Err, inl, inr}
-use Rattle.std.proofs.lemmas.Bool.{cases_eq, eq-eqb, false≢true, ne_eqb}
+use Rattle.std.proofs.Common.{◌≡◌, ℕ, zero, suc, ◌+◌, ◌-◌, ◌<◌, ◌==◌, ◌||◌, nat_lt, refl, ap, arith, sym, ◌∙◌, subst, cond, true, false, Bool, Option, Some, None}
+use Rattle.std.proofs.lemmas.Bool.{eq-eqb, false≢true, ne_eqb}
 use Rattle.vk_types.specs.declared.types.Stop.{Stop}
 use Rattle.vk_io.specs.declared.outside.Outside.{Outside}
 use Rattle.vk_code.specs.Listing.{CallSite}
@@ -9,11 +9,19 @@ use Rattle.vk_object.specs.Memory.{Memory}
 use Rattle.vk_object.specs.Lane.{LaneState, View, is_live}
 use Rattle.vk_object.specs.Machine.{Called, Given, Ran, Site, Target, World, any_live, arg_reg, call_all, call_one, calls_in_turn, calls_target, enters, first_lane, first_live, in_lane, lane_args, lowest_stop, put, runs_entry, sweep, takes, target_of, word_in}
 use Rattle.vk_frames.proofs.Writes.{put_self}
-use Rattle.vk_access.specs.Outer.{Breaks, Goes, Leads, Outer, Runs, world}
+use Rattle.vk_access.specs.Outer.{Breaks, Goes, Leads, Outer, world}
 use Rattle.vk_access.proofs.Leading.{breaks_after, breaks_as, leads_as, leads_map, leads_then}
 use Rattle.vk_runs.specs.Logs.{Grows}
 use Rattle.vk_steps.specs.declared.place.Place.{Place}
 use Rattle.vk_perform.proofs.Growing.{GrowsLogs, turn_grows}
+
+-- ---- what is told of a frame, by the lanes of its place
+
+pub alive : (lanes n m : ℕ) (l : ℕ → LaneState) (r b : Bool) → n ≡ lanes → r ≡ any_live n m l → r ≡ b → any_live lanes m l ≡ b
+alive lanes n m l r b e f h = ap (λ k. any_live k m l) (sym e) ∙ (sym f ∙ h)
+
+pub lowest_at : (lanes n : ℕ) (stops : ℕ → Option Stop) (low : Option Stop) → n ≡ lanes → low ≡ lowest_stop n stops → low ≡ lowest_stop lanes stops
+lowest_at lanes n stops low e h = h ∙ ap (λ k. lowest_stop k stops) e
 
 -- ---- for all lanes
 

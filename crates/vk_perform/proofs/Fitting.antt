@@ -1,15 +1,20 @@
 -- A frame fits its place after a call, and after a block that was out of turns.
-use Rattle.std.proofs.Common.{◌≡◌, refl, ℕ, zero, ◌+◌, ◌<◌, ◌≤◌, ◌==◌, nat_le, Bool, true, false, cond, nat_lt, List, length, Option, Some, None, ap, arith, sym, subst, ◌∙◌, ◌&&◌, ◌||◌}
-use Rattle.std.specs.Prelude.{slice_get}
+use Rattle.std.proofs.Common.{◌≡◌, refl, ℕ, zero, ◌<◌, ◌==◌, nat_le, Bool, true, false, cond, nat_lt, not, List, length, Option, Some, None, ap, arith, sym, subst, ◌∙◌, ◌||◌}
 use Rattle.std.specs.List.{list_all}
-use Rattle.std.proofs.lemmas.Bool.{eqb-true, leb-true}
+use Rattle.std.proofs.lemmas.Bool.{eqb-true, leb-true, ltb-true}
+use Rattle.std.specs.declared.alloc.Global.{Global}
+use Rattle.std.specs.declared.vec.Vec.{Vec}
+use Rattle.vk_types.specs.declared.types.Word.{Word}
 use Rattle.vk_types.specs.declared.types.Stop.{Stop}
 use Rattle.vk_types.specs.declared.types.Stop.TheVariants.{Turns}
 use Rattle.vk_kinds.specs.declared.heads.CType.{CType}
 use Rattle.vk_code.specs.Listing.{CallSite, Listing}
 use Rattle.vk_code.specs.Tests.{pairs}
-use Rattle.vk_code.specs.Valid.{result_type}
+use Rattle.vk_code.specs.declared.instruction.Instr.{Instr}
+use Rattle.vk_code.specs.declared.instruction.Operation.TheVariants.{SimdLoop}
+use Rattle.vk_code.specs.Valid.{is_canonical, result_type}
 use Rattle.vk_code.proofs.Faults.{and_left, and_right}
+use Rattle.vk_object.specs.declared.image.Image.{Image}
 use Rattle.vk_object.specs.declared.tables.EntryKind.{EntryKind}
 use Rattle.vk_object.specs.Images.{arg_types, are_entries, has_lanes, has_slot_types, is_chunk, is_entry_byte, is_equal, is_number_of, is_row, is_variant, param_types, result_of}
 use Rattle.vk_object.specs.Parameters.{are_kinds}
@@ -27,7 +32,12 @@ use Rattle.vk_runs.proofs.Words.{put_word, zero_word}
 use Rattle.vk_steps.specs.declared.place.Place.{Place}
 use Rattle.vk_steps.specs.Places.{FitsPlace, IsSound, entry, listing, regs, tables}
 use Rattle.vk_steps.proofs.Fitting.{fits_as, fits_put}
-use Rattle.vk_calls.specs.Fetched.{IsPart}
+use Rattle.vk_access.specs.declared.store.Store.{Store}
+use Rattle.vk_access.specs.Cells.{cells_in, length_in}
+use Rattle.vk_access.specs.Stores.{FitsStore}
+use Rattle.vk_calls.specs.declared.fetch.Fetched.{Fetched}
+use Rattle.vk_calls.specs.declared.fetch.Fetched.TheVariants.{Simd}
+use Rattle.vk_calls.specs.Fetched.{IsFetched, IsPart, IsPlain}
 use Rattle.vk_passing.specs.Taken.{taken, taken_live}
 
 either_words : (types : List CType) (a b : LaneState) (t : Bool) → HasWords types a → HasWords types b → HasWords types (cond t a b)
@@ -106,3 +116,25 @@ has_a_lane p s =
     some_lanes x.kind x.lanes (row_lanes (tables p) x (between 1 4096 (length x.text)) (list_all is_entry_byte x.text) (has_lanes x.kind x.lanes) (is_number_of (tables p).codes x.code)
     (cond (is_variant x.kind) (are_kinds x.params) (length x.params == 0)) (list_all (is_number_of (tables p).entries) x.targets) (list_all (are_entries (tables p)) x.loops)
     (all_at (is_row (tables p)) (tables p).entries (image_parts (tables p) s.valid).rows_good p.number x s.placed))
+
+-- a simd loop at a place
+loop_at : (p : Place) (at left : ℕ) (f : Fetched) (i : Instr) (number : ℕ) → f ≡ Simd i number → IsFetched p at left f → IsPlain p at left i (SimdLoop number)
+loop_at p at left f i number e h = subst (λ f. IsFetched p at left f) e h
+
+pub loop_mask : (p : Place) (at left : ℕ) (f : Fetched) (i : Instr) (number : ℕ) → f ≡ Simd i number → IsFetched p at left f → i.m < (listing p).routine.masks
+loop_mask p at left f i number e h = (loop_at p at left f i number e h).good.mask
+
+pub loop_there : (p : Place) (at left : ℕ) (f : Fetched) (i : Instr) (number : ℕ) → f ≡ Simd i number → IsFetched p at left f → number < (listing p).routine.loops
+loop_there p at left f i number e h =
+    let c = (listing p).routine in
+    ltb-true number c.loops (and_right (not c.lane_code) (nat_lt number c.loops) (loop_at p at left f i number e h).good.typed)
+
+-- ---- the memory
+
+-- a call is counted
+pub fits_counted : (image : Image) (a b : Store) → FitsStore image a → b.cells ≡ a.cells → length b.counts.items ≡ length a.counts.items → FitsStore image b
+fits_counted image a b h e l = record {
+  counts = l ∙ h.counts;
+  lengths = λ n x found. ap (λ (v : Vec (Vec Word Global) Global). length_in v.items n) e ∙ h.lengths n x found;
+  words = λ n i x found. subst (λ (v : Vec (Vec Word Global) Global). is_canonical x.ty (cells_in v.items n i) ≡ true) (sym e) (h.words n i x found);
+}

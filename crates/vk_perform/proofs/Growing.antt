@@ -1,12 +1,12 @@
 -- What is run only adds to the log.
-use Rattle.std.proofs.Common.{◌≡◌, ◌==◌, ℕ, zero, suc, ◌+◌, ◌-◌, ◌<◌, nat_lt, arith, refl, sym, subst, cond, true, false, Bool, List, Option, Some, None, inl, inr, map}
+use Rattle.std.proofs.Common.{◌==◌, ℕ, zero, suc, ◌+◌, ◌<◌, nat_lt, arith, refl, subst, cond, true, false, Bool, List, Option, Some, None, inl, inr, map}
 use Rattle.std.proofs.lemmas.Bool.{cases_eq}
 use Rattle.vk_types.specs.declared.types.Stop.{Stop}
 use Rattle.vk_code.specs.declared.instruction.Instr.{Instr}
 use Rattle.vk_code.specs.Listing.{CallSite}
 use Rattle.vk_object.specs.Memory.{Memory}
-use Rattle.vk_object.specs.Lane.{LaneState, View, is_live}
-use Rattle.vk_object.specs.Machine.{Called, Given, Ran, Site, World, again, arg_reg, call_one, calls_in_turn, enters, entry_at, extent_of, in_lane, lowest_stop, run, sweep, takes, then_calls}
+use Rattle.vk_object.specs.Lane.{View, is_live}
+use Rattle.vk_object.specs.Machine.{Called, Given, Ran, World, again, arg_reg, call_one, calls_in_turn, entry_at, extent_of, in_lane, lowest_stop, run, sweep, takes, then_calls}
 use Rattle.vk_runs.specs.Logs.{Grows}
 use Rattle.vk_runs.proofs.Logs.{grows_noted, grows_same, grows_stored, grows_then}
 use Rattle.vk_runs.proofs.Memories.{again_keeps, entry_keeps, run_keeps, turns_keep}

@@ -1,6 +1,7 @@
 -- Simd loops: the calls of the body, and the lane after them.
-use Rattle.std.proofs.Common.{◌≡◌, ℕ, ◌-◌, ◌*◌, ◌/◌, ◌%◌, ◌+◌, ◌<◌, ◌≤◌, arith, nat_lt, refl, ap, sym, ◌∙◌, subst, cond, true, false, Bool, Option, Some, None, Result, Ok, Err}
-use Rattle.std.specs.Prelude.{min}
+use Rattle.std.proofs.Common.{◌≡◌, ℕ, ◌-◌, ◌*◌, ◌/◌, ◌%◌, ◌+◌, ◌≤◌, arith, nat_lt, refl, ap, sym, ◌∙◌, subst, cond, true, false, Bool, Option, Some, None, Result, Ok, Err}
+use Rattle.std.specs.Prelude.{is_some, min}
+use Rattle.std.proofs.lemmas.Bool.{false≢true}
 use Rattle.std.proofs.Math.Nat.{div-mul-le_self, mod-eq-sub-div-mul}
 use Rattle.vk_types.specs.declared.types.Stop.{Stop}
 use Rattle.vk_types.specs.declared.types.Stop.TheVariants.{Turns}
@@ -9,10 +10,9 @@ use Rattle.vk_object.specs.Memory.{Memory}
 use Rattle.vk_object.specs.Lane.{LaneState, View, is_live, number_at, with_stop}
 use Rattle.vk_object.specs.Machine.{Called, Ran, Simd, Site, World, after_calls, all_calls, body_args, calls_in_turn, guard_holds, iterations, put, runs_simd, simd_in, simd_of, then_calls}
 use Rattle.vk_frames.proofs.Writes.{put_self}
-use Rattle.vk_runs.specs.Logs.{Grows}
 use Rattle.vk_runs.proofs.Logs.{grows_same}
 use Rattle.vk_steps.specs.declared.place.Place.{Place}
-use Rattle.vk_access.specs.Outer.{Breaks, Goes, Leads, Outer, Runs, RunsCalls, world}
+use Rattle.vk_access.specs.Outer.{Breaks, Goes, Leads, Outer, RunsCalls, world}
 use Rattle.vk_access.proofs.Leading.{breaks_after, breaks_as, breaks_more, leads_as, leads_map, leads_then}
 use Rattle.vk_entries.specs.Settled.{settled}
 use Rattle.vk_perform.proofs.Growing.{GrowsLogs, then_grows, turns_grow}
@@ -28,10 +28,6 @@ pub calls_as : (r : Result (Option Stop) Outside) (a b : Outer) (F F' : Memory �
 calls_as (Ok stop) a b F F' e p = leads_as Ran a b F (λ mem. record { stop = stop; mem = mem }) F' (λ mem. record { stop = stop; mem = mem }) e (λ mem. refl) p
 calls_as (Err fault) a b F F' e p = breaks_as a b fault (λ mem. (F mem).mem) (λ mem. (F' mem).mem) (λ mem. ap (λ (r : Ran). r.mem) (e mem)) p
 
--- the stop, told otherwise
-pub stop_as : (low stop : Option Stop) (a b : Outer) (F : Memory → Ran) → low ≡ stop → Leads Ran a b F (λ mem. record { stop = low; mem = mem }) → Leads Ran a b F (λ mem. record { stop = stop; mem = mem })
-stop_as low stop a b F e p = subst (λ (s : Option Stop). Leads Ran a b F (λ mem. record { stop = s; mem = mem })) e p
-
 -- ---- all calls of a loop
 
 -- one iteration a call, where the guard does not hold
@@ -43,51 +39,66 @@ slow_calls chunk rest args words lanes one n k fast mem slow o e f =
     ∙ (ap (λ (g : ℕ → ℕ → ℕ → ℕ). calls_in_turn rest g one n 0 mem) (sym f) ∙ ap (λ i. calls_in_turn rest words one i 0 mem) (sym e)))
 
 -- the calls of the chunk, and then those of the rest
-abbrev chunked : Called → Called → (ℕ → ℕ → ℕ → ℕ → ℕ → ℕ) → ℕ → ℕ → Memory → Ran
-chunked chunk rest args lanes n mem = then_calls (calls_in_turn chunk (args lanes 0) lanes (n / lanes) 0 mem) (λ m. calls_in_turn rest (args 1 (n / lanes * lanes)) 1 (n % lanes) 0 m)
+chunked : (chunk rest : Called) (args : ℕ → ℕ → ℕ → ℕ → ℕ → ℕ) (lanes n count : ℕ) (fast : Bool) (mem : Memory) → fast ≡ true → count ≡ n / lanes →
+    all_calls chunk rest args lanes fast n mem ≡ then_calls (calls_in_turn chunk (args lanes 0) lanes count 0 mem) (λ m. calls_in_turn rest (args 1 (n / lanes * lanes)) 1 (n % lanes) 0 m)
+chunked chunk rest args lanes n count fast mem f e =
+    ap (λ t. all_calls chunk rest args lanes t n mem) f
+    ∙ ap (λ i. then_calls (calls_in_turn chunk (args lanes 0) lanes i 0 mem) (λ m. calls_in_turn rest (args 1 (n / lanes * lanes)) 1 (n % lanes) 0 m)) (sym e)
 
 -- where a call of the chunk stopped
-pub chunk_stops : (chunk rest : Called) (args : ℕ → ℕ → ℕ → ℕ → ℕ → ℕ) (lanes n k : ℕ) (fast : Bool) (x : Stop) (a b : Outer) → fast ≡ true → k ≡ n →
-    Leads Ran a b (λ mem. calls_in_turn chunk (args lanes 0) lanes (k / lanes) 0 mem) (λ mem. record { stop = Some x; mem = mem }) →
-    Leads Ran a b (λ mem. all_calls chunk rest args lanes fast n mem) (λ mem. record { stop = Some x; mem = mem })
-chunk_stops chunk rest args lanes n k fast x a b f e p =
-    leads_as Ran a b (λ mem. chunked chunk rest args lanes k mem) (λ mem. record { stop = Some x; mem = mem }) (λ mem. all_calls chunk rest args lanes fast n mem) (λ mem. record { stop = Some x; mem = mem })
-    (λ mem. ap (λ t. all_calls chunk rest args lanes t n mem) f ∙ ap (λ i. chunked chunk rest args lanes i mem) (sym e))
+pub chunk_stops : (chunk rest : Called) (args : ℕ → ℕ → ℕ → ℕ → ℕ → ℕ) (lanes n count : ℕ) (fast : Bool) (stop : Option Stop) (a b : Outer) → fast ≡ true → count ≡ n / lanes → is_some stop ≡ true →
+    Leads Ran a b (λ mem. calls_in_turn chunk (args lanes 0) lanes count 0 mem) (λ mem. record { stop = stop; mem = mem }) →
+    Leads Ran a b (λ mem. all_calls chunk rest args lanes fast n mem) (λ mem. record { stop = stop; mem = mem })
+chunk_stops chunk rest args lanes n count fast None a b f e some p = absurd (false≢true some)
+chunk_stops chunk rest args lanes n count fast (Some x) a b f e some p =
+    leads_as Ran a b (λ mem. then_rest (calls_in_turn chunk (args lanes 0) lanes count 0 mem)) (λ mem. record { stop = Some x; mem = mem }) (λ mem. all_calls chunk rest args lanes fast n mem) (λ mem. record { stop = Some x; mem = mem })
+    (λ mem. chunked chunk rest args lanes n count fast mem f e)
     (λ mem. refl)
-    (leads_map Ran Ran a b (λ mem. calls_in_turn chunk (args lanes 0) lanes (k / lanes) 0 mem) (λ mem. record { stop = Some x; mem = mem })
-    (λ r. then_calls r (λ m. calls_in_turn rest (args 1 (k / lanes * lanes)) 1 (k % lanes) 0 m)) p)
+    (leads_map Ran Ran a b (λ mem. calls_in_turn chunk (args lanes 0) lanes count 0 mem) (λ mem. record { stop = Some x; mem = mem }) then_rest p)
+  where
+    then_rest : Ran → Ran
+    then_rest r = then_calls r (λ m. calls_in_turn rest (args 1 (n / lanes * lanes)) 1 (n % lanes) 0 m)
 
 -- where one broke
-pub chunk_breaks : (p : Place) (chunk rest : Called) (args : ℕ → ℕ → ℕ → ℕ → ℕ → ℕ) (lanes n k : ℕ) (fast : Bool) (a b : Outer) (fault : Outside) → fast ≡ true → k ≡ n → GrowsLogs rest →
-    Breaks a b fault (λ mem. (calls_in_turn chunk (args lanes 0) lanes (k / lanes) 0 mem).mem) → Breaks a b fault (λ mem. (all_calls chunk rest args lanes fast n mem).mem)
-chunk_breaks p chunk rest args lanes n k fast a b fault f e grows q =
-    breaks_as a b fault (λ mem. (chunked chunk rest args lanes k mem).mem) (λ mem. (all_calls chunk rest args lanes fast n mem).mem)
-    (λ mem. ap (λ (r : Ran). r.mem) (ap (λ t. all_calls chunk rest args lanes t n mem) f ∙ ap (λ i. chunked chunk rest args lanes i mem) (sym e)))
-    (breaks_more a b fault (λ mem. (calls_in_turn chunk (args lanes 0) lanes (k / lanes) 0 mem).mem) (λ mem. (chunked chunk rest args lanes k mem).mem) q
-    (λ mem. then_grows (calls_in_turn chunk (args lanes 0) lanes (k / lanes) 0 mem) (λ m. calls_in_turn rest (args 1 (k / lanes * lanes)) 1 (k % lanes) 0 m)
-    (λ m. turns_grow p rest (args 1 (k / lanes * lanes)) 1 grows (k % lanes) 0 m)))
+pub chunk_breaks : (p : Place) (chunk rest : Called) (args : ℕ → ℕ → ℕ → ℕ → ℕ → ℕ) (lanes n count : ℕ) (fast : Bool) (a b : Outer) (fault : Outside) → fast ≡ true → count ≡ n / lanes → GrowsLogs rest →
+    Breaks a b fault (λ mem. (calls_in_turn chunk (args lanes 0) lanes count 0 mem).mem) → Breaks a b fault (λ mem. (all_calls chunk rest args lanes fast n mem).mem)
+chunk_breaks p chunk rest args lanes n count fast a b fault f e grows q =
+    breaks_as a b fault (λ mem. (then_calls (first mem) next).mem) (λ mem. (all_calls chunk rest args lanes fast n mem).mem)
+    (λ mem. ap (λ (r : Ran). r.mem) (chunked chunk rest args lanes n count fast mem f e))
+    (breaks_more a b fault (λ mem. (first mem).mem) (λ mem. (then_calls (first mem) next).mem) q
+    (λ mem. then_grows (first mem) next (λ m. turns_grow p rest (args 1 (n / lanes * lanes)) 1 grows (n % lanes) 0 m)))
+  where
+    first : Memory → Ran
+    first mem = calls_in_turn chunk (args lanes 0) lanes count 0 mem
+
+    next : Memory → Ran
+    next m = calls_in_turn rest (args 1 (n / lanes * lanes)) 1 (n % lanes) 0 m
 
 -- where none did: the rest
-pub rest_runs : (r : Result (Option Stop) Outside) (chunk rest : Called) (args : ℕ → ℕ → ℕ → ℕ → ℕ → ℕ) (words : ℕ → ℕ → ℕ → ℕ) (lanes one n k : ℕ) (fast : Bool) (a b d : Outer) → fast ≡ true → k ≡ n → one ≡ 1 → words ≡ args one (k / lanes * lanes) →
-    Leads Ran a b (λ mem. calls_in_turn chunk (args lanes 0) lanes (k / lanes) 0 mem) (λ mem. record { stop = None; mem = mem }) →
-    RunsCalls r b d (λ mem. calls_in_turn rest words one (k % lanes) 0 mem) →
+pub rest_runs : (r : Result (Option Stop) Outside) (chunk rest : Called) (args : ℕ → ℕ → ℕ → ℕ → ℕ → ℕ) (words : ℕ → ℕ → ℕ → ℕ) (lanes one n count left : ℕ) (fast : Bool) (stop : Option Stop) (a b d : Outer) →
+    fast ≡ true → count ≡ n / lanes → left ≡ n % lanes → one ≡ 1 → words ≡ args one (n / lanes * lanes) → is_some stop ≡ false →
+    Leads Ran a b (λ mem. calls_in_turn chunk (args lanes 0) lanes count 0 mem) (λ mem. record { stop = stop; mem = mem }) →
+    RunsCalls r b d (λ mem. calls_in_turn rest words one left 0 mem) →
     RunsCalls r a d (λ mem. all_calls chunk rest args lanes fast n mem)
-rest_runs r chunk rest args words lanes one n k fast a b d f e o g p q =
-    calls_as r a d (λ mem. chunked chunk rest args lanes k mem) (λ mem. all_calls chunk rest args lanes fast n mem)
-    (λ mem. ap (λ t. all_calls chunk rest args lanes t n mem) f ∙ ap (λ i. chunked chunk rest args lanes i mem) (sym e))
-    (by r (calls_as r b d (λ mem. calls_in_turn rest words one (k % lanes) 0 mem) next
-    (λ mem. ap (λ i. calls_in_turn rest (args i (k / lanes * lanes)) i (k % lanes) 0 mem) (sym o) ∙ ap (λ (h : ℕ → ℕ → ℕ → ℕ). calls_in_turn rest h one (k % lanes) 0 mem) (sym g)) q))
+rest_runs r chunk rest args words lanes one n count left fast (Some x) a b d f e h o g none p q = absurd (false≢true (sym none))
+rest_runs r chunk rest args words lanes one n count left fast None a b d f e h o g none p q =
+    calls_as r a d (λ mem. then_rest (calls_in_turn chunk (args lanes 0) lanes count 0 mem)) (λ mem. all_calls chunk rest args lanes fast n mem)
+    (λ mem. chunked chunk rest args lanes n count fast mem f e)
+    (by r (calls_as r b d (λ mem. calls_in_turn rest words one left 0 mem) next
+    (λ mem. ap (λ i. calls_in_turn rest (args i (n / lanes * lanes)) i (n % lanes) 0 mem) (sym o) ∙ (ap (λ (w : ℕ → ℕ → ℕ → ℕ). calls_in_turn rest w one (n % lanes) 0 mem) (sym g) ∙ ap (λ i. calls_in_turn rest words one i 0 mem) (sym h))) q))
   where
     next : Memory → Ran
-    next m = calls_in_turn rest (args 1 (k / lanes * lanes)) 1 (k % lanes) 0 m
+    next m = calls_in_turn rest (args 1 (n / lanes * lanes)) 1 (n % lanes) 0 m
 
-    first : Leads Ran a b (λ mem. chunked chunk rest args lanes k mem) next
-    first = leads_map Ran Ran a b (λ mem. calls_in_turn chunk (args lanes 0) lanes (k / lanes) 0 mem) (λ mem. record { stop = None; mem = mem })
-        (λ r. then_calls r (λ m. calls_in_turn rest (args 1 (k / lanes * lanes)) 1 (k % lanes) 0 m)) p
+    then_rest : Ran → Ran
+    then_rest r = then_calls r (λ m. calls_in_turn rest (args 1 (n / lanes * lanes)) 1 (n % lanes) 0 m)
 
-    by : (r : Result (Option Stop) Outside) → RunsCalls r b d next → RunsCalls r a d (λ mem. chunked chunk rest args lanes k mem)
-    by (Ok stop) h = leads_then Ran a b d (λ mem. chunked chunk rest args lanes k mem) next (λ mem. record { stop = stop; mem = mem }) first h
-    by (Err fault) h = breaks_after Ran (λ r. r.mem) a b d fault (λ mem. chunked chunk rest args lanes k mem) next (λ mem. (next mem).mem) first h (λ mem. grows_same (next mem).mem)
+    first : Leads Ran a b (λ mem. then_rest (calls_in_turn chunk (args lanes 0) lanes count 0 mem)) next
+    first = leads_map Ran Ran a b (λ mem. calls_in_turn chunk (args lanes 0) lanes count 0 mem) (λ mem. record { stop = None; mem = mem }) then_rest p
+
+    by : (r : Result (Option Stop) Outside) → RunsCalls r b d next → RunsCalls r a d (λ mem. then_rest (calls_in_turn chunk (args lanes 0) lanes count 0 mem))
+    by (Ok stop) k = leads_then Ran a b d (λ mem. then_rest (calls_in_turn chunk (args lanes 0) lanes count 0 mem)) next (λ mem. record { stop = stop; mem = mem }) first k
+    by (Err fault) k = breaks_after Ran (λ r. r.mem) a b d fault (λ mem. then_rest (calls_in_turn chunk (args lanes 0) lanes count 0 mem)) next (λ mem. (next mem).mem) first k (λ mem. grows_same (next mem).mem)
 
 -- ---- for how many iterations the calls are
 
@@ -97,8 +108,8 @@ one_each n = omega arith
 pub slow_asked : (lanes n k most turns : ℕ) → lanes ≡ 1 → most ≡ min n turns → n ≡ k → 0 + most * lanes ≤ k
 slow_asked lanes n k most turns o m e = subst (λ l. 0 + most * l ≤ k) (sym o) (omega (arith, m, e))
 
-pub chunk_asked : (lanes n most turns : ℕ) → most ≡ min n turns → 0 + most / lanes * lanes ≤ n
-chunk_asked lanes n most turns m = at_most (most / lanes * lanes) (div-mul-le_self most lanes)
+pub chunk_asked : (lanes d n most turns : ℕ) → d ≡ lanes → most ≡ min n turns → 0 + most / d * lanes ≤ n
+chunk_asked lanes d n most turns e m = subst (λ l. 0 + most / d * l ≤ n) e (at_most (most / d * d) (div-mul-le_self most d))
   where
     at_most : (x : ℕ) → x ≤ most → 0 + x ≤ n
     at_most x h = omega (arith, h, m)
@@ -168,11 +179,11 @@ module _ (s : Site) (m k : ℕ) (o : Simd) (chunk rest : Called) (n : ℕ) (l : 
       (λ mem. ap (λ (w : World). w.mem) (loop_is mem) ∙ after_mem n s.turns (l 0) (calls_of_loop s o chunk rest (l 0) n mem)) p
 
 -- where lane 0 is not live, nothing happens
-pub loop_none : (s : Site) (m k : ℕ) (o : Simd) (w : World) → is_live m (w.lane 0) ≡ false → simd_of s k ≡ Some o → runs_simd s m (simd_of s k) w ≡ w
-loop_none s m k o w dead found =
-    ap (λ x. runs_simd s m x w) found
-    ∙ (ap (λ t. in_world (cond t (simd_in s o (record { lane = w.lane 0; mem = w.mem })) (record { lane = w.lane 0; mem = w.mem }))) dead
-    ∙ ap (λ f. world f w.mem) (put_self w.lane 0))
+pub loop_none : (s : Site) (m : ℕ) (o : Option Simd) (w : World) → is_live m (w.lane 0) ≡ false → runs_simd s m o w ≡ w
+loop_none s m None w dead = refl
+loop_none s m (Some o) w dead =
+    ap (λ t. in_world (cond t (simd_in s o (record { lane = w.lane 0; mem = w.mem })) (record { lane = w.lane 0; mem = w.mem }))) dead
+    ∙ ap (λ f. world f w.mem) (put_self w.lane 0)
   where
     in_world : View → World
     in_world v = record { lane = put w.lane 0 v.lane; mem = v.mem }

@@ -1,5 +1,5 @@
 -- Runs from a place in the list of instructions.
-use Rattle.std.proofs.Common.{◌≡◌, ℕ, zero, suc, ◌+◌, ◌-◌, ◌<◌, ◌≤◌, ◌==◌, List, [], ◌∷◌, length, refl, ap, arith, sym, ◌∙◌, subst, drop, Option, None, Some, cond, true, false, Result, Ok, Err}
+use Rattle.std.proofs.Common.{◌≡◌, ℕ, zero, suc, ◌+◌, ◌-◌, ◌<◌, ◌≤◌, ◌==◌, List, [], ◌∷◌, length, refl, ap, arith, sym, ◌∙◌, subst, drop, None, Some, cond, true, false, Result, Ok, Err}
 use Rattle.std.specs.Prelude.{slice_get}
 use Rattle.std.proofs.lemmas.Bool.{false≢true}
 use Rattle.vk_code.specs.declared.instruction.Instr.{Instr}
@@ -22,6 +22,16 @@ use Rattle.vk_calls.specs.declared.fetch.Fetched.TheVariants.{Block, Calls, Simd
 use Rattle.vk_calls.specs.Fetched.{IsFetched, IsPart, IsPlain}
 use Rattle.vk_calls.proofs.Parts.{drop-at, drop-drop}
 use Rattle.vk_perform.specs.Performed.{performed, size_of}
+
+-- ---- numbers
+
+pub less_0 : (k : ℕ) → k ≡ k - 0
+less_0 k = omega arith
+
+pub none_left : (k : ℕ) → k ≤ 0 → k ≡ 0
+none_left k h = omega (arith, h)
+
+-- ---- the list
 
 pub run_zero : (s : Site) (is : List Instr) (w : World) → run s is zero zero w ≡ w
 run_zero s [] w = refl

@@ -1,6 +1,5 @@
 -- What an instruction at a place does.
-use Rattle.std.specs.Prelude.{ℕ, zero, ◌+◌, ◌-◌, drop}
-use Rattle.vk_code.specs.declared.instruction.Instr.{Instr}
+use Rattle.std.specs.Prelude.{ℕ, zero, ◌+◌, drop}
 use Rattle.vk_object.specs.Lane.{acts}
 use Rattle.vk_object.specs.Machine.{World, again, calls_target, run, runs_simd, simd_of, sweep, target_of}
 use Rattle.vk_steps.specs.declared.place.Place.{Place}

@@ -1,5 +1,5 @@
 -- What is there where code runs, and what stays of it.
-use Rattle.std.specs.Prelude.{◌≡◌, ℕ, ◌+◌, ◌≤◌, List, length}
+use Rattle.std.specs.Prelude.{◌≤◌, List, length}
 use Rattle.vk_types.specs.declared.types.Word.{Word}
 use Rattle.vk_frames.specs.declared.frame.Frame.{Frame}
 use Rattle.vk_steps.specs.declared.place.Place.{Place}

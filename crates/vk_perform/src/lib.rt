@@ -1,4 +1,4 @@
-//! The machine that runs the entries of an image.
+//! The machine's cycle: the code of an entry of an image, with its blocks, calls and simd loops.
 #![tactic(auto)]
 
 pub mod handing;

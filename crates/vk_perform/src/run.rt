@@ -33,7 +33,8 @@ use vk_passing::results::{take, take_all};
 use vk_steps::Place;
 use vk_types::{Stop, Word};
 
-/// Calls an entry whose first frame is filled.
+/// Runs the code of an entry whose first frame is filled, and counts the call; `cells` have room for the frames of all that it calls.
+/// An `Err` is the sink's, which had then taken a front of what the run prints.
 #[cycle(run)]
 pub fn enter<O: Sink>(
     place: &Place<'_>,

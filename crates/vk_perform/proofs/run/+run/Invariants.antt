@@ -1,10 +1,9 @@
-use Rattle.std.proofs.Common.{◌≡◌, ◌+◌, ◌-◌, ◌*◌, ◌^◌, ◌≤◌, length, drop, zero}
+use Rattle.std.proofs.Common.{◌+◌, ◌-◌, ◌*◌, ◌^◌, ◌≤◌, length, drop, zero}
 use Rattle.vk_code.specs.Listing.{call_site_of, simd_site_of}
 use Rattle.vk_object.specs.Machine.{Ran, World, again, body_args, call_one, calls_in_turn, enters, run, sweep}
 use Rattle.vk_frames.specs.Frames.{lanes_of}
-use Rattle.vk_steps.specs.Places.{called_cells, entry, listing, site, tables}
+use Rattle.vk_steps.specs.Places.{entry, listing, site}
 use Rattle.vk_access.specs.Outer.{Goes, Leads, outer_of, world}
-use Rattle.vk_access.specs.Stores.{FitsStore}
 use Rattle.vk_calls.specs.Fetched.{IsPart}
 use Rattle.vk_perform.specs.Ready.{IsReady}
 use Rattle.vk_perform.proofs.run.+run.Given as goal
