@@ -69,6 +69,7 @@ row_numbers (x ∷ row) f k h =
 
 -- the greatest number of the last row
 pub row_greatest : (image : Tables) (row : List ℕ) → is_image image ≡ true → cells_at row ≡ chain_at image 64 → length row ≡ length image.entries → greatest row ≡ longest_chain image
+unfolding longest_chain
 row_greatest image row valid h k =
     row_numbers row (chain_at image 64) 0 (λ n. ap (λ f. f n) h ∙ ap (chain_at image 64) (from n))
     ∙ (ap (λ n. greatest (map (chain_at image 64) (range_with_len 0 n))) k

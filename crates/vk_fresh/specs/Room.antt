@@ -6,7 +6,7 @@ use Rattle.vk_object.specs.Images.{chain_cells, entry_numbers, greatest}
 use Rattle.vk_object.specs.Tables.{Tables}
 
 -- the cells of the frames along the longest chain of calls
-abbrev pub longest_chain : Tables → ℕ
+unfoldable pub longest_chain : Tables → ℕ
 longest_chain image = greatest (map (chain_cells image 64) (entry_numbers image))
 
 -- an image without what is known of its tables

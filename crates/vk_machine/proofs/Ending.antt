@@ -21,7 +21,7 @@ ends_by (Err NoMemory) stop g a b h k = ((λ t. h.lean t refl), record { front =
 -- the call of main from the first cells is the program's run
 pub main_call : (image : Image) (n turns : ℕ) (call : DirectCall) (cells : ℕ → ℕ → ℕ) → call.place.image.now ≡ image → call.place.number ≡ n → call.place.turns ≡ turns → image.main ≡ Some n → call.words.now ≡ [] →
     ((j : ℕ) → is_on call.mask.now j ≡ nat_lt j 1) → cells ≡ (first_memory (image_tables image)).cells → entered call cells ≡ program (image_tables image) turns
-unfolding entered, program
+unfolding entered program
 main_call image n turns call cells h e t m w on c =
     (λ i. runs (image_tables (h i)) (t i) (e i) (λ j. on j i) (Rattle.vk_direct.specs.Calls.given_words (lane_count call.mask.now) (w i)) (record { cells = c i; log = [] }))
     ∙ ap (λ o. runs (image_tables image) turns (main_number o) (λ j. nat_lt j 1) (λ p j. 0) (first_memory (image_tables image))) (sym m)

@@ -47,7 +47,7 @@ leaves_ok (Err fault) g a b h ok = absurd (false≢true ok)
 -- what the call gives on a machine
 pub called_is : (m : Machine) (turns e : ℕ) (mask : LaneMask) (args : List Word) (call : DirectCall) → call.place.image.now ≡ m.image → call.place.number ≡ e → call.place.turns ≡ turns → call.mask.now ≡ mask → call.words.now ≡ args →
     entered call (cells m) ≡ called m turns e mask args
-unfolding entered, called
+unfolding entered called
 called_is m turns e mask args call h n t k w = λ i. runs (image_tables (h i)) (t i) (n i) (is_on (k i)) (given_words (lane_count (k i)) (w i)) (record { cells = cells m; log = [] })
 
 pub results_called : (mask : LaneMask) (g g' : Given) (call : DirectCall) (old new : List Word) → call.mask.now ≡ mask → g ≡ g' → Writes (gives_on (is_on call.mask.now) g) g.value old new → Writes (gives_on (is_on mask) g') g'.value old new

@@ -1,32 +1,36 @@
 -- What an image says of its program, and of the cells of its calls.
 use Rattle.std.proofs.Common.{◌≡◌, ℕ, zero, suc, ◌+◌, ◌*◌, ◌^◌, ◌<◌, ◌≤◌, ◌==◌, max, nat_le, nat_lt, Bool, true, false, ◌&&◌, cond, List, [], ◌∷◌, length, map, take, replicate, Option, Some, None, refl, ap, ap₂, sym, subst, ◌∙◌, arith}
 use Rattle.std.specs.Prelude.{slice_get, slice_index}
-use Rattle.std.specs.List.{list_all}
+use Rattle.std.specs.List.{length_refill, list_all}
+use Rattle.std.specs.Vec.{with_items}
+use Rattle.std.specs.declared.alloc.Global.{Global}
+use Rattle.std.specs.declared.vec.Vec.{Vec}
 use Rattle.std.specs.Option.{option_map}
 use Rattle.std.proofs.Math.Nat.{le-max_left, le-max_right}
-use Rattle.std.proofs.lemmas.Bool.{eqb-true, false≢true, lt-ltb}
+use Rattle.std.proofs.lemmas.Bool.{eqb-true, false≢true, le-leb, lt-ltb}
 use Rattle.std.proofs.lemmas.Option.{none-some, same_Some, slice_get-map, slice_get_within}
-use Rattle.vk_kinds.specs.declared.heads.CType.{CType}
+use Rattle.vk_types.specs.declared.types.Word.{Word}
 use Rattle.vk_code.specs.Listing.{Listing}
 use Rattle.vk_code.specs.Tests.{holds}
 use Rattle.vk_code.proofs.Faults.{and_left, and_right}
 use Rattle.vk_object.specs.declared.image.Image.{Image}
 use Rattle.vk_object.specs.declared.tables.EntryKind.{EntryKind}
 use Rattle.vk_object.specs.declared.tables.EntryKind.TheVariants.{Ordinary, Scalar, N, M, Chunk, Rest}
-use Rattle.vk_object.specs.Images.{are_entries, array_before, cells_of, chain_cells, code_of, entry_before, entry_numbers, greatest, has_lanes, is_array, is_code, is_entry, is_entry_byte, is_image, is_letter, is_main, is_number_of, is_ordinary, is_row, is_some_entry, is_variant, is_vl, is_within, result_of}
+use Rattle.vk_object.specs.Images.{are_entries, array_before, cells_of, chain_cells, code_of, entry_before, entry_numbers, frame_cells, greatest, has_lanes, is_array, is_code, is_entry, is_entry_byte, is_image, is_letter, is_main, is_number_of, is_ordinary, is_row, is_some_entry, is_variant, is_vl, is_within, result_of}
 use Rattle.vk_object.specs.Parameters.{are_kinds}
 use Rattle.vk_object.specs.Machine.{extent_of}
 use Rattle.vk_object.specs.Tables.{ArrayLists, EntryLists, Tables}
 use Rattle.vk_object.specs.Texts.{ascend, between}
 use Rattle.vk_runs.proofs.Reached.{all_at, holds_at, image_parts, row_lanes}
 use Rattle.vk_steps.specs.declared.place.Place.{Place}
-use Rattle.vk_steps.specs.Places.{IsSound, entry, image_tables, tables}
+use Rattle.vk_steps.specs.Places.{called_cells, entry, image_tables, listing, tables}
 use Rattle.vk_access.specs.declared.store.Store.{Store}
 use Rattle.vk_access.specs.Cells.{length_in}
 use Rattle.vk_access.specs.Outer.{told}
 use Rattle.vk_access.specs.Stores.{FitsStore}
 use Rattle.vk_calls.proofs.Callees.{holds_some}
 use Rattle.vk_fresh.specs.Room.{longest_chain}
+use Rattle.vk_direct.specs.Places.{IsOutermost}
 use Rattle.vk_direct.specs.Taking.{are_words_of, takes_call, takes_words}
 use Rattle.vk_direct.proofs.Outermost.{number_in}
 use Rattle.vk_machine.specs.Machines.{array_length}
@@ -39,16 +43,17 @@ at_most f (x ∷ xs) zero n e = subst (λ m. f m ≤ max (f x) (greatest (map f 
 at_most f (x ∷ xs) (suc k) n e = let l = at_most f xs k n e in let m = le-max_right (f x) (greatest (map f xs)) in omega (arith, l, m)
 
 pub chain_within : (image : Tables) (n : ℕ) → n < length image.entries → chain_cells image 64 n ≤ longest_chain image
+unfolding longest_chain
 chain_within image n l = at_most (chain_cells image 64) (entry_numbers image) n n (number_in 0 (length image.entries) n l ∙ ap Some (from n))
   where
     from : (n : ℕ) → 0 + n ≡ n
     from n = omega arith
 
 -- cells for an entry's frame and its calls
-pub call_room : (p : Place) (image : Image) (n : ℕ) → IsSound p → p.image.now ≡ image → n ≡ longest_chain (image_tables image) → chain_cells (tables p) 64 p.number ≤ n
+pub call_room : (p : Place) (image : Image) (n : ℕ) → IsOutermost p → p.image.now ≡ image → n ≡ longest_chain (image_tables image) → frame_cells (entry p) (Some (listing p)) + called_cells (tables p) p.depth (entry p) ≤ n
 call_room p image n s h e =
-    subst (λ k. chain_cells (tables p) 64 p.number ≤ k) (ap (λ (i : Image). longest_chain (image_tables i)) h ∙ sym e)
-    (chain_within (tables p) p.number (slice_get_within (tables p).entries p.number (entry p) s.placed))
+    subst (λ k. frame_cells (entry p) (Some (listing p)) + called_cells (tables p) p.depth (entry p) ≤ k) (ap (λ (i : Image). longest_chain (image_tables i)) h ∙ sym e)
+    (subst (λ k. k ≤ longest_chain (tables p)) s.cells (chain_within (tables p) p.number (slice_get_within (tables p).entries p.number (entry p) s.sound.placed)))
 
 -- ---- main
 
@@ -69,7 +74,7 @@ one_lane Chunk n o h = absurd (false≢true o)
 one_lane Rest n o h = absurd (false≢true o)
 
 no_words : (c : Listing) → c.routine.params ≡ 0 → takes_words 1 [] c ≡ true
-no_words c e = ap (λ n. nat_le n (length c.routine.regs) && are_words_of 1 (take n c.routine.regs) []) e
+no_words c e = ap (λ n. nat_le n (length c.routine.regs) && are_words_of 1 (take n c.routine.regs) []) e ∙ ap (λ b. b && true) (le-leb 0 (length c.routine.regs) (omega arith))
 
 abbrev is_main_code : Listing → Bool
 is_main_code c = (c.routine.params == 0) && (result_of c == 2)
@@ -114,3 +119,8 @@ element_inside image store a i h l = by (slice_get (image_tables image).arrays a
     by : (o : Option ArrayLists) → slice_get (image_tables image).arrays a ≡ o → i < elim o as (λ _. ℕ) [ None ↦ 0 | Some x ↦ x.length ] → i < length_in store.cells.items a
     by None e l = absurd (omega (arith, l))
     by (Some x) e l = subst (λ n. i < n) (sym (h.lengths a (extent_of x) (slice_get-map extent_of (image_tables image).arrays a ∙ ap (option_map extent_of) e))) l
+
+-- ---- room that is written
+
+pub frames_kept : (v : Vec Word Global) (ws : List Word) (n : ℕ) → length v.items ≡ n → length (with_items v ws).items ≡ n
+frames_kept v ws n h = sym (length_refill v.len v.items ws v.ok.0) ∙ (v.ok.0 ∙ h)

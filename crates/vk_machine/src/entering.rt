@@ -1,10 +1,10 @@
 // A call of an entry from outside.
 
-ghost use Rattle.std.specs.Prelude.{◌≡◌, ◌+◌, ◌<◌, ◌≤◌, ℕ, IsOk, None, length, slice_index, slice_index_or};
+ghost use Rattle.std.specs.Prelude.{◌≡◌, ◌+◌, ◌<◌, ◌≤◌, ℕ, IsOk, None, Some, length, slice_index, slice_index_or};
 ghost use Rattle.vk_lanes.specs.Kernels.{Writes};
 ghost use Rattle.vk_lanes.specs.Masks.{is_on, lane_count};
-ghost use Rattle.vk_object.specs.Images.{chain_cells};
-ghost use Rattle.vk_steps.specs.Places.{FitsPlace, called_cells, entry, tables};
+ghost use Rattle.vk_object.specs.Images.{frame_cells};
+ghost use Rattle.vk_steps.specs.Places.{FitsPlace, called_cells, entry, listing, tables};
 ghost use Rattle.vk_access.specs.Cells.{cells_in};
 ghost use Rattle.vk_object.specs.Memory.{calls_of};
 ghost use Rattle.vk_access.specs.Outer.{outer_of, told};
@@ -35,7 +35,7 @@ pub fn call_entry<O: Sink>(
 ) -> Result<(), Outside>
     requires entry { IsEntry call.now }
     requires store { FitsStore call.now.place.image.now memory.old }
-    requires room { chain_cells (tables call.now.place) 64 call.now.place.number ≤ length frames.old }
+    requires room { frame_cells (entry call.now.place) (Some (listing call.now.place)) + called_cells (tables call.now.place) call.now.place.depth (entry call.now.place) ≤ length frames.old }
     requires results { length results.old ≡ lane_count call.now.mask.now }
     requires stops { length stops.old ≡ lane_count call.now.mask.now }
     ensures store { FitsStore call.now.place.image.now memory.new }
@@ -71,7 +71,7 @@ pub fn call_silently(
 )
     requires entry { IsEntry call.now }
     requires store { FitsStore call.now.place.image.now memory.old }
-    requires room { chain_cells (tables call.now.place) 64 call.now.place.number ≤ length frames.old }
+    requires room { frame_cells (entry call.now.place) (Some (listing call.now.place)) + called_cells (tables call.now.place) call.now.place.depth (entry call.now.place) ≤ length frames.old }
     requires results { length results.old ≡ lane_count call.now.mask.now }
     requires stops { length stops.old ≡ lane_count call.now.mask.now }
     ensures store { FitsStore call.now.place.image.now memory.new }

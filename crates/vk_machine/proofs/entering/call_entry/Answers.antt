@@ -11,7 +11,7 @@ use Rattle.vk_machine.proofs.Gives.{entry_calls, entry_in}
 use Rattle.vk_machine.proofs.entering.call_entry.Goals as goal
 
 pub split_at_mut-words-requires : goal.split_at_mut-words-requires
-split_at_mut-words-requires g c = let e = c.requires.entry.place.cells in let r = c.requires.room in let f = c.frame_size.ensures in omega (arith, e, r, f)
+split_at_mut-words-requires g c = let r = c.requires.room in let f = c.frame_size.ensures in omega (arith, r, f)
 
 pub take_results-requires-clause-register : goal.take_results-requires-clause-register
 take_results-requires-clause-register g c =
