@@ -1,5 +1,5 @@
 -- What a call from outside gives, by the run of its entry.
-use Rattle.std.proofs.Common.{◌≡◌, ℕ, ◌+◌, ◌&&◌, Bool, cond, IsTrue, IsOk, List, [], ◌++◌, Option, is_none, Result, Ok, Err, refl, ap, sym, subst, ◌∙◌}
+use Rattle.std.proofs.Common.{◌≡◌, ℕ, ◌+◌, ◌&&◌, Bool, cond, IsOk, List, [], ◌++◌, Option, is_none, Result, Ok, Err, ap, sym, subst, ◌∙◌}
 use Rattle.std.proofs.lemmas.Bool.{false≢true}
 use Rattle.vk_io.specs.declared.outside.Outside.{Outside}
 use Rattle.vk_io.specs.Sink.{GrowsWithin}

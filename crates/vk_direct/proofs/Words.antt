@@ -1,5 +1,5 @@
 -- What words are where an entry may be called on them.
-use Rattle.std.proofs.Common.{◌≡◌, ℕ, zero, suc, ◌+◌, ◌-◌, ◌*◌, ◌^◌, ◌<◌, ◌≤◌, ◌==◌, min, nat_le, nat_lt, Bool, true, false, ◌&&◌, List, [], ◌∷◌, length, take, drop, get_or, Option, Some, None, refl, ap, sym, subst, ◌∙◌, arith, length-drop, length-take, get_or-drop, get_or-take}
+use Rattle.std.proofs.Common.{◌≡◌, ℕ, zero, suc, ◌+◌, ◌-◌, ◌*◌, ◌^◌, ◌<◌, ◌≤◌, ◌==◌, min, nat_le, nat_lt, Bool, true, false, ◌&&◌, List, [], ◌∷◌, length, take, drop, Option, Some, None, refl, ap, sym, subst, ◌∙◌, arith, length-drop, length-take, get_or-drop}
 use Rattle.std.specs.Prelude.{slice_get}
 use Rattle.std.specs.List.{list_all}
 use Rattle.std.proofs.lemmas.Bool.{eqb-true, false≢true, leb-true, lt-leb, ltb-true}
@@ -12,12 +12,11 @@ use Rattle.vk_kinds.specs.declared.heads.CType.TheVariants.{Void, Int, Ptr}
 use Rattle.vk_kinds.specs.Types.{ctype_number}
 use Rattle.vk_code.specs.Listing.{Listing, reg_type}
 use Rattle.vk_code.specs.Tests.{holds}
-use Rattle.vk_code.specs.Valid.{is_canonical}
 use Rattle.vk_code.proofs.Faults.{and_left, and_right}
 use Rattle.vk_object.specs.declared.image.Image.{Image}
 use Rattle.vk_object.specs.Images.{code_of}
 use Rattle.vk_object.specs.Tables.{EntryLists, Tables}
-use Rattle.vk_frames.specs.Rows.{pattern_at, place_of}
+use Rattle.vk_frames.specs.Rows.{pattern_at}
 use Rattle.vk_runs.specs.Words.{AreArguments, IsWordOf}
 use Rattle.vk_runs.proofs.Reached.{holds_at}
 use Rattle.vk_runs.proofs.Words.{at_number, no_integer}

@@ -1,5 +1,5 @@
 -- How the run of a program ends, by what its call answers.
-use Rattle.std.proofs.Common.{◌≡◌, ℕ, ◌<◌, nat_lt, Bool, List, [], Option, Some, None, IsOk, Result, Ok, Err, refl, ap, sym, subst, ◌∙◌}
+use Rattle.std.proofs.Common.{◌≡◌, ℕ, nat_lt, [], Option, Some, IsOk, Result, Ok, Err, refl, ap, sym, ◌∙◌}
 use Rattle.vk_types.specs.declared.types.Stop.{Stop}
 use Rattle.vk_io.specs.declared.outside.Outside.{Outside}
 use Rattle.vk_io.specs.declared.outside.Outside.TheVariants.{Failed, Memory as NoMemory}

@@ -1,6 +1,5 @@
 -- A call by the run of its entry.
-use Rattle.std.proofs.Common.{◌≡◌, ℕ, ◌+◌, ◌<◌, ◌≤◌, Bool, true, false, List, [], ◌∷◌, length, map, max, Option, Some, None, IsOk, Result, Ok, Err, refl, ap, sym, subst, ◌∙◌, arith}
-use Rattle.std.specs.Prelude.{slice_get}
+use Rattle.std.proofs.Common.{◌≡◌, ℕ, true, List, [], IsOk, Result, Ok, Err, refl, ap, sym, subst, arith}
 use Rattle.std.proofs.lemmas.Bool.{false≢true}
 use Rattle.vk_io.specs.declared.outside.Outside.{Outside}
 use Rattle.vk_io.specs.declared.outside.Outside.TheVariants.{Failed, Memory as NoMemory}
@@ -11,7 +10,7 @@ use Rattle.vk_lanes.specs.declared.mask.LaneMask.{LaneMask}
 use Rattle.vk_lanes.specs.Kernels.{Writes}
 use Rattle.vk_object.specs.Machine.{Given, enters, first_lane, runs, runs_entry}
 use Rattle.vk_steps.specs.Places.{entry, image_tables, listing, site}
-use Rattle.vk_access.specs.Outer.{Outer, Runs, memory_of}
+use Rattle.vk_access.specs.Outer.{Outer, Runs}
 use Rattle.vk_direct.specs.declared.call.DirectCall.{DirectCall}
 use Rattle.vk_direct.specs.Calls.{IsEntry, entered, given_words}
 use Rattle.vk_direct.specs.Given.{Calls, IsIn, Leaves, gives_on}

@@ -1,5 +1,5 @@
 -- What an image says of its program, and of the cells of its calls.
-use Rattle.std.proofs.Common.{◌≡◌, ℕ, zero, suc, ◌+◌, ◌*◌, ◌^◌, ◌<◌, ◌≤◌, ◌==◌, max, nat_le, nat_lt, Bool, true, false, ◌&&◌, cond, List, [], ◌∷◌, length, map, take, replicate, Option, Some, None, refl, ap, ap₂, sym, subst, ◌∙◌, arith}
+use Rattle.std.proofs.Common.{◌≡◌, ℕ, zero, suc, ◌+◌, ◌^◌, ◌<◌, ◌≤◌, ◌==◌, max, nat_le, Bool, true, ◌&&◌, cond, List, [], ◌∷◌, length, map, take, replicate, Option, Some, None, refl, ap, sym, subst, ◌∙◌, arith}
 use Rattle.std.specs.Prelude.{slice_get, slice_index}
 use Rattle.std.specs.List.{length_refill, list_all}
 use Rattle.std.specs.Vec.{with_items}
@@ -21,7 +21,7 @@ use Rattle.vk_object.specs.Parameters.{are_kinds}
 use Rattle.vk_object.specs.Machine.{extent_of}
 use Rattle.vk_object.specs.Tables.{ArrayLists, EntryLists, Tables}
 use Rattle.vk_object.specs.Texts.{ascend, between}
-use Rattle.vk_runs.proofs.Reached.{all_at, holds_at, image_parts, row_lanes}
+use Rattle.vk_runs.proofs.Reached.{all_at, image_parts, row_lanes}
 use Rattle.vk_steps.specs.declared.place.Place.{Place}
 use Rattle.vk_steps.specs.Places.{called_cells, entry, image_tables, listing, tables}
 use Rattle.vk_access.specs.declared.store.Store.{Store}

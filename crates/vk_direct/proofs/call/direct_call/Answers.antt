@@ -1,9 +1,9 @@
-use Rattle.std.proofs.Common.{◌<◌, length, subst, rules}
+use Rattle.std.proofs.Common.{◌<◌, subst}
 use Rattle.std.proofs.lemmas.List.{length-map}
 use Rattle.vk_lanes.specs.Masks.{lane_count}
 use Rattle.vk_object.specs.Tables.{entry_list_of}
 use Rattle.vk_steps.specs.Places.{image_tables}
-use Rattle.vk_direct.proofs.Words.{taken_at, taken_small, taken_there}
+use Rattle.vk_direct.proofs.Words.{taken_at, taken_there}
 use Rattle.vk_direct.proofs.call.direct_call.Goals as goal
 
 pub place_of-requires : goal.place_of-requires

@@ -1,4 +1,4 @@
-use Rattle.std.proofs.Common.{◌∙◌, ◌<◌, ap, arith, sym}
+use Rattle.std.proofs.Common.{◌∙◌, ap, arith, sym}
 use Rattle.vk_lanes.specs.Masks.{is_on, lane_count}
 use Rattle.vk_object.specs.Machine.{first_lane}
 use Rattle.vk_steps.specs.Places.{listing}

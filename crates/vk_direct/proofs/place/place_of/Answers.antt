@@ -1,4 +1,4 @@
-use Rattle.std.proofs.Common.{◌<◌, length, arith, refl, rules, subst, sym}
+use Rattle.std.proofs.Common.{◌<◌, length, refl, rules, subst, sym}
 use Rattle.std.proofs.lemmas.Option.{slice_get_read}
 use Rattle.std.proofs.lemmas.List.{length-map}
 use Rattle.vk_code.specs.Listing.{listing_of}

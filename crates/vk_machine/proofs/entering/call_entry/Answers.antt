@@ -1,5 +1,5 @@
-use Rattle.std.proofs.Common.{◌≡◌, ◌∙◌, ◌+◌, ◌<◌, ◌≤◌, length, arith, rules, subst, sym, IfSome}
-use Rattle.vk_lanes.specs.Masks.{is_on, lane_count}
+use Rattle.std.proofs.Common.{◌∙◌, ◌<◌, arith, subst, sym, IfSome}
+use Rattle.vk_lanes.specs.Masks.{is_on}
 use Rattle.vk_frames.specs.Frames.{lanes_of}
 use Rattle.vk_access.specs.Cells.{cells_in}
 use Rattle.vk_access.specs.Outer.{outer_of}

@@ -1,4 +1,4 @@
-use Rattle.std.proofs.Common.{◌≡◌, refl, IsOk, Bool, true}
+use Rattle.std.proofs.Common.{refl}
 use Rattle.vk_access.specs.Cells.{cells_in}
 use Rattle.vk_access.specs.Outer.{Outer, outer_of}
 use Rattle.vk_direct.specs.Calls.{entered}

@@ -1,4 +1,4 @@
-use Rattle.std.proofs.Common.{◌≡◌, ◌∙◌, ◌+◌, ◌<◌, ap, length, subst, sym}
+use Rattle.std.proofs.Common.{◌∙◌, ◌+◌, ◌<◌, ap, length, subst, sym}
 use Rattle.vk_lanes.specs.declared.mask.LaneMask.{LaneMask}
 use Rattle.vk_lanes.specs.Masks.{lane_count}
 use Rattle.vk_object.specs.declared.image.Image.{Image}
