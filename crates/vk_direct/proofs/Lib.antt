@@ -1,0 +1,4 @@
+pub mod Given
+pub mod Outermost
+mod Results
+pub mod Words

@@ -1,0 +1,5 @@
+pub mod Calls
+pub mod Discard
+pub mod Given
+pub mod Places
+pub mod Taking
