@@ -1,12 +1,12 @@
 -- What pieces stand for.
-use Rattle.std.proofs.Common.{◌≡◌, ℕ, ◌+◌, ◌<◌, List, [], ◌++◌, length, Option, Some, None, Result, Ok, Err, append_assoc, append-nil, refl, sym, ap, ◌∙◌, subst, arith}
+use Rattle.std.proofs.Common.{◌≡◌, ℕ, ◌+◌, ◌<◌, List, [], ◌++◌, length, Option, Some, None, Result, Ok, Err, append_assoc, append-nil, refl, sym, ap, ◌∙◌, subst}
 use Rattle.std.specs.Prelude.{OnOk, IfErr}
 use Rattle.std.proofs.lemmas.Bool.{lt-ltb}
 use Rattle.vk_format.specs.declared.rules.ObjectFail.{ObjectFail}
 use Rattle.vk_format.specs.declared.rules.ObjectFail.TheVariants as fails
 use Rattle.vk_format.specs.declared.rules.ObjectFault.{ObjectFault}
 use Rattle.vk_format.specs.declared.rules.ObjectRule.TheVariants.{O4}
-use Rattle.vk_format.specs.Format.{Format, Field, Whole, Left, left, fault, judge, advance, told, ended, more}
+use Rattle.vk_format.specs.Format.{Format, Field, Whole, fault, judge, advance, told, ended, more}
 use Rattle.vk_format.proofs.Pieces.{advance_more, judge_advance, told_stays_at}
 use Rattle.vk_code_read.specs.Inner.Left.{taken}
 use Rattle.vk_pieces.specs.Fields.{IsField}
@@ -50,9 +50,9 @@ module _ {R : Type 0} (f : Format R) where
 
   -- ---- the end
 
-  pub ends_failed : {T : Type 0} (rows : R) (e : ObjectFail) (now : Format R) (p : Pieces) (bytes : List ℕ) → p.failed ≡ Some e → Stands f now p bytes
+  pub ends_failed : (T : Type 0) (rows : R) (e : ObjectFail) (now : Format R) (p : Pieces) (bytes : List ℕ) → p.failed ≡ Some e → Stands f now p bytes
       → IsEnded {T = T} (Err e) f rows bytes
-  ends_failed {T = T} rows e now p bytes is h = failed_read T rows e now p bytes (stands_as (Some e) now p bytes is h)
+  ends_failed T rows e now p bytes is h = failed_read T rows e now p bytes (stands_as (Some e) now p bytes is h)
 
   judge_left : (now : Format R) (p : Pieces) (bytes : List ℕ) → p.failed ≡ None → Stands f now p bytes → judge f 0 bytes ≡ judge now p.at p.pending.items
   unfolding ended
