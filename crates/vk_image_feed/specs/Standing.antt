@@ -1,7 +1,6 @@
 -- What a feed stands for, and what it answers.
 use Rattle.std.specs.Prelude.{ℕ, List}
 use Rattle.vk_pieces.specs.Standing.{Stands as StandFor}
-use Rattle.vk_rows_format.specs.Image.{rows_format}
 use Rattle.vk_image_feed.specs.declared.feed.RawImageFeed.{RawImageFeed}
 use Rattle.vk_image_feed.specs.Rows.{rows_format, rows_left}
 

@@ -6,7 +6,7 @@ ghost use Rattle.vk_image_feed.specs.Rows.{rows_left, rows_width};
 use crate::rows::ImageRows;
 use std::alloc::Global;
 use vk_format::ObjectFail;
-use vk_rows_format::RawImage;
+use vk_image_format::RawImage;
 use vk_image_read::ImageFields;
 use vk_pieces::Pieces;
 
@@ -21,7 +21,7 @@ pub struct RawImageFeed {
 impl RawImageFeed {
     ghost use Rattle.std.specs.Prelude.{ℕ, ◌++◌, [], List, Err, IfErr, IfSome, Some};
     ghost use Rattle.vk_format.specs.Format.{advance};
-    ghost use Rattle.vk_rows_format.specs.Image.{rows_format};
+    ghost use Rattle.vk_image_feed.specs.Rows.{rows_format};
     ghost use Rattle.vk_pieces.specs.Standing.{IsTold};
     ghost use Rattle.vk_image_feed.specs.Reading.{IsRead};
     ghost use Rattle.vk_image_feed.specs.Standing.{Stands};

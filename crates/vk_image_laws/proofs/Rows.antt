@@ -63,7 +63,7 @@ kind_params true kind c e is count kinds = kinds
 kind_params false kind c e is count kinds = eq-eqb _ _ (length-map param_of e.front.params ∙ count ∙ no_params kind c is)
 
 -- a number below the number of members is one of the members that they stand for
-number_of_map : {A B : Type 0} (f : A → B) (xs : List A) (n : ℕ) → nat_lt n (length xs) ≡ true → is_number_of (map f xs) n ≡ true
+pub number_of_map : {A B : Type 0} (f : A → B) (xs : List A) (n : ℕ) → nat_lt n (length xs) ≡ true → is_number_of (map f xs) n ≡ true
 number_of_map f xs n h = ap (nat_lt n) (length-map f xs) ∙ h
 
 module _ (i : RawImage) where
