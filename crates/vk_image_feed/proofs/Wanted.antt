@@ -4,7 +4,7 @@ use Rattle.std.proofs.lemmas.Bool.{false≢true}
 use Rattle.vk_format.specs.Format.{Format, Whole}
 use Rattle.vk_code_read.specs.Inner.Left.{Behind}
 use Rattle.vk_pieces.specs.Fields.{IsField}
-use Rattle.vk_pieces.proofs.Code.{code_field}
+use Rattle.vk_pieces.proofs.Codes.{code_field}
 use Rattle.vk_image_format.specs.declared.rows.RawArray.{RawArray}
 use Rattle.vk_image_format.specs.declared.rows.RawEntry.{RawEntry}
 use Rattle.vk_image_read.specs.declared.array.ArrayFeed.{ArrayFeed}

@@ -1,3 +1,3 @@
 pub mod Taken
 pub mod Stands
-pub mod Code
+pub mod Codes
