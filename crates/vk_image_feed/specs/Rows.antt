@@ -1,11 +1,9 @@
 -- The tables of an image, before what is judged once the last field is complete.
-use Rattle.std.specs.Prelude.{ℕ, Bool, true, false}
+use Rattle.std.specs.Prelude.{ℕ}
 use Rattle.vk_format.specs.Format.{Format, Whole}
 use Rattle.vk_image_format.specs.declared.rows.RawImage.{RawImage}
 use Rattle.vk_image_format.specs.Image.{image_table}
 use Rattle.vk_image_read.specs.declared.image.ImageFields.{ImageFields}
-use Rattle.vk_image_read.specs.declared.image.ImageStage.{ImageStage}
-use Rattle.vk_image_read.specs.declared.image.ImageStage.TheVariants.{Magic, Version, TargetOf, Letter, Vl, Main, ArrayCount, Array, CodeCount, Code, EntryCount, Entry, Done}
 use Rattle.vk_image_read.specs.Inner.LeftImage.{image_left, image_width}
 
 abbrev pub is_whole : RawImage → ℕ → Format RawImage
@@ -16,25 +14,9 @@ unfoldable pub rows_format : Format RawImage
 rows_format = image_table.read 0 is_whole
 
 -- what is still wanted
-unfoldable pub rows_left : ImageFields → ℕ → Format RawImage
+abbrev pub rows_left : ImageFields → ℕ → Format RawImage
 rows_left s at = image_left s at is_whole
 
 -- the bytes of the field that comes next
-unfoldable pub rows_width : ImageFields → ℕ
+abbrev pub rows_width : ImageFields → ℕ
 rows_width s = image_width s
-
--- no field is left
-abbrev pub is_done : ImageStage → Bool
-is_done Magic = false
-is_done Version = false
-is_done TargetOf = false
-is_done Letter = false
-is_done Vl = false
-is_done Main = false
-is_done ArrayCount = false
-is_done (Array left) = false
-is_done CodeCount = false
-is_done (Code left) = false
-is_done EntryCount = false
-is_done (Entry left) = false
-is_done Done = true

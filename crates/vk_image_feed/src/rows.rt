@@ -1,8 +1,8 @@
 // The fields of an image as those of any table.
 
-ghost use Rattle.std.specs.Prelude.{◌≡◌, ◌<◌, ◌+◌, ◌^◌, length};
-ghost use Rattle.vk_code_read.specs.Inner.Left.{Stepped};
-ghost use Rattle.vk_image_feed.specs.Rows.{is_done, rows_format, rows_left, rows_width};
+ghost use Rattle.std.specs.Prelude.{◌≡◌};
+ghost use Rattle.vk_image_read.specs.Stages.{is_done};
+ghost use Rattle.vk_image_feed.specs.Rows.{rows_format, rows_left};
 
 use std::alloc::Global;
 use vk_format::ObjectFail;
@@ -30,45 +30,21 @@ fn is_done(stage: ImageStage) -> bool
     }
 }
 
-// Fields of which none has come.
-fn no_fields(alloc: Global) -> ImageFields
-    ensures start { rows_left result 0 ≡ rows_format }
-{
-    ImageFields::new::<RawImage>(alloc)
-}
-
-// How many bytes the next field has, 0 where none is wanted.
-#[tactic(auto, unfolding(crate::specs::Rows::rows_width))]
-fn next_width(fields: &ImageFields) -> usize
-    ensures { result ≡ rows_width fields.now }
-{
-    fields.width()
-}
-
-// Takes the next field.
-fn take_next(fields: &mut ImageFields, at: u64, field: &[u8]) -> Result<(), ObjectFail>
-    requires width { length field.now ≡ rows_width fields.old }
-    requires wanted { 0 < rows_width fields.old }
-    requires place { at + rows_width fields.old < 2 ^ 64 }
-    ensures { Stepped (rows_left fields.old at) field.now result (rows_left fields.new (at + rows_width fields.old)) }
-{
-    fields.step::<RawImage>(at, field)
-}
-
 impl ImageRows {
     /// An image of which nothing has come.
     pub fn new(alloc: Global) -> ImageRows
         ensures start { rows_left result.fields 0 ≡ rows_format }
     {
         ImageRows {
-            fields: no_fields(alloc),
+            fields: ImageFields::new::<RawImage>(alloc),
         }
     }
 }
 
 impl Fields for ImageRows {
-    ghost use Rattle.vk_image_feed.specs.Rows.{is_done, rows_left, rows_width};
-    ghost use Rattle.vk_image_feed.proofs.Wanted.{image_field, nothing_wanted, whole_image};
+    ghost use Rattle.vk_image_read.specs.Stages.{is_done};
+    ghost use Rattle.vk_image_read.proofs.Wanted.{image_field, nothing_wanted, whole_image};
+    ghost use Rattle.vk_image_feed.specs.Rows.{is_whole, rows_left, rows_width};
 
     type Rows = RawImage;
 
@@ -80,14 +56,14 @@ impl Fields for ImageRows {
 
     ghost rows = { λ s. s.fields.image };
 
-    ghost field = { λ s at h. image_field s.fields at h };
+    ghost field = { λ s at h. image_field s.fields at is_whole h };
 
     ghost nothing = { λ s h. nothing_wanted s.fields h };
 
-    ghost whole = { λ s at h. whole_image s.fields at h };
+    ghost whole = { λ s at h. whole_image s.fields at is_whole h };
 
     fn width(&self) -> usize {
-        next_width(&self.fields)
+        self.fields.width()
     }
 
     fn is_whole(&self) -> bool {
@@ -95,6 +71,6 @@ impl Fields for ImageRows {
     }
 
     fn step(&mut self, at: u64, field: &[u8]) -> Result<(), ObjectFail> {
-        take_next(&mut self.fields, at, field)
+        self.fields.step::<RawImage>(at, field)
     }
 }

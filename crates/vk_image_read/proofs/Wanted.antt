@@ -1,12 +1,12 @@
 -- Where a field of an image is wanted, it is one of so many bytes.
 use Rattle.std.proofs.Common.{◌≡◌, ℕ, zero, suc, ◌+◌, ◌<◌, true, false, List, refl, arith}
 use Rattle.std.proofs.lemmas.Bool.{false≢true}
-use Rattle.vk_format.specs.Format.{Format, Whole}
 use Rattle.vk_code_read.specs.Inner.Left.{Behind}
 use Rattle.vk_pieces.specs.Fields.{IsField}
 use Rattle.vk_pieces.proofs.Codes.{code_field}
 use Rattle.vk_image_format.specs.declared.rows.RawArray.{RawArray}
 use Rattle.vk_image_format.specs.declared.rows.RawEntry.{RawEntry}
+use Rattle.vk_image_format.specs.declared.rows.RawImage.{RawImage}
 use Rattle.vk_image_read.specs.declared.array.ArrayFeed.{ArrayFeed}
 use Rattle.vk_image_read.specs.declared.array.ArrayStage.{ArrayStage}
 use Rattle.vk_image_read.specs.declared.array.ArrayStage.TheVariants as arrays
@@ -18,8 +18,8 @@ use Rattle.vk_image_read.specs.declared.image.ImageStage.{ImageStage}
 use Rattle.vk_image_read.specs.declared.image.ImageStage.TheVariants as images
 use Rattle.vk_image_read.specs.Inner.LeftArray.{array_left_at, array_width_at}
 use Rattle.vk_image_read.specs.Inner.LeftEntry.{Among, among, entry_left_at, entry_width_at}
-use Rattle.vk_image_read.specs.Inner.LeftImage.{after_array, after_code, after_entry, image_left_at, image_width_at}
-use Rattle.vk_image_feed.specs.Rows.{is_done, is_whole, rows_left, rows_width}
+use Rattle.vk_image_read.specs.Inner.LeftImage.{after_array, after_code, after_entry, image_left, image_left_at, image_width, image_width_at}
+use Rattle.vk_image_read.specs.Stages.{is_done}
 
 array_field : {R : Type 0} (st : ArrayStage) (before : List RawArray) (s : ArrayFeed) (at : ℕ) (next : Behind RawArray R) → 0 < array_width_at st s.array
     → IsField (array_left_at st before s at next) (array_width_at st s.array)
@@ -49,24 +49,23 @@ entry_field (entries.Chunk left) a s at next h = refl
 entry_field (entries.Rest left chunk) a s at next h = refl
 entry_field entries.Done a s at next h = absurd (omega (arith, h))
 
-image_field_at : (st : ImageStage) (s : ImageFields) (at : ℕ) → 0 < image_width_at st s → IsField (image_left_at st s at is_whole) (image_width_at st s)
-image_field_at images.Magic s at h = refl
-image_field_at images.Version s at h = refl
-image_field_at images.TargetOf s at h = refl
-image_field_at images.Letter s at h = refl
-image_field_at images.Vl s at h = refl
-image_field_at images.Main s at h = refl
-image_field_at images.ArrayCount s at h = refl
-image_field_at (images.Array left) s at h = array_field s.array.stage s.image.arrays s.array at (after_array s.image left is_whole) h
-image_field_at images.CodeCount s at h = refl
-image_field_at (images.Code left) s at h = code_field s.code at (after_code s.image s.count left is_whole) h
-image_field_at images.EntryCount s at h = refl
-image_field_at (images.Entry left) s at h = entry_field s.entry.stage (among s.image.codes s.count s.image.entries) s.entry at (after_entry s.image s.count left is_whole) h
-image_field_at images.Done s at h = absurd (omega (arith, h))
+image_field_at : {R : Type 0} (st : ImageStage) (s : ImageFields) (at : ℕ) (next : Behind RawImage R) → 0 < image_width_at st s → IsField (image_left_at st s at next) (image_width_at st s)
+image_field_at images.Magic s at next h = refl
+image_field_at images.Version s at next h = refl
+image_field_at images.TargetOf s at next h = refl
+image_field_at images.Letter s at next h = refl
+image_field_at images.Vl s at next h = refl
+image_field_at images.Main s at next h = refl
+image_field_at images.ArrayCount s at next h = refl
+image_field_at (images.Array left) s at next h = array_field s.array.stage s.image.arrays s.array at (after_array s.image left next) h
+image_field_at images.CodeCount s at next h = refl
+image_field_at (images.Code left) s at next h = code_field s.code at (after_code s.image s.count left next) h
+image_field_at images.EntryCount s at next h = refl
+image_field_at (images.Entry left) s at next h = entry_field s.entry.stage (among s.image.codes s.count s.image.entries) s.entry at (after_entry s.image s.count left next) h
+image_field_at images.Done s at next h = absurd (omega (arith, h))
 
-pub image_field : (s : ImageFields) (at : ℕ) → 0 < rows_width s → IsField (rows_left s at) (rows_width s)
-unfolding rows_left rows_width
-image_field s at h = image_field_at s.stage s at h
+pub image_field : {R : Type 0} (s : ImageFields) (at : ℕ) (next : Behind RawImage R) → 0 < image_width s → IsField (image_left s at next) (image_width s)
+image_field s at next h = image_field_at s.stage s at next h
 
 nothing_at : (st : ImageStage) (s : ImageFields) → is_done st ≡ true → image_width_at st s ≡ 0
 nothing_at images.Magic s h = absurd (false≢true h)
@@ -83,27 +82,25 @@ nothing_at images.EntryCount s h = absurd (false≢true h)
 nothing_at (images.Entry left) s h = absurd (false≢true h)
 nothing_at images.Done s h = refl
 
--- where the last field is taken no field is wanted
-pub nothing_wanted : (s : ImageFields) → is_done s.stage ≡ true → rows_width s ≡ 0
-unfolding rows_width
+-- where no field is left none is wanted
+pub nothing_wanted : (s : ImageFields) → is_done s.stage ≡ true → image_width s ≡ 0
 nothing_wanted s h = nothing_at s.stage s h
 
-whole_at : (st : ImageStage) (s : ImageFields) (at : ℕ) → is_done st ≡ true → image_left_at st s at is_whole ≡ Whole s.image
-whole_at images.Magic s at h = absurd (false≢true h)
-whole_at images.Version s at h = absurd (false≢true h)
-whole_at images.TargetOf s at h = absurd (false≢true h)
-whole_at images.Letter s at h = absurd (false≢true h)
-whole_at images.Vl s at h = absurd (false≢true h)
-whole_at images.Main s at h = absurd (false≢true h)
-whole_at images.ArrayCount s at h = absurd (false≢true h)
-whole_at (images.Array left) s at h = absurd (false≢true h)
-whole_at images.CodeCount s at h = absurd (false≢true h)
-whole_at (images.Code left) s at h = absurd (false≢true h)
-whole_at images.EntryCount s at h = absurd (false≢true h)
-whole_at (images.Entry left) s at h = absurd (false≢true h)
-whole_at images.Done s at h = refl
+whole_at : {R : Type 0} (st : ImageStage) (s : ImageFields) (at : ℕ) (next : Behind RawImage R) → is_done st ≡ true → image_left_at st s at next ≡ next s.image at
+whole_at images.Magic s at next h = absurd (false≢true h)
+whole_at images.Version s at next h = absurd (false≢true h)
+whole_at images.TargetOf s at next h = absurd (false≢true h)
+whole_at images.Letter s at next h = absurd (false≢true h)
+whole_at images.Vl s at next h = absurd (false≢true h)
+whole_at images.Main s at next h = absurd (false≢true h)
+whole_at images.ArrayCount s at next h = absurd (false≢true h)
+whole_at (images.Array left) s at next h = absurd (false≢true h)
+whole_at images.CodeCount s at next h = absurd (false≢true h)
+whole_at (images.Code left) s at next h = absurd (false≢true h)
+whole_at images.EntryCount s at next h = absurd (false≢true h)
+whole_at (images.Entry left) s at next h = absurd (false≢true h)
+whole_at images.Done s at next h = refl
 
--- and the image is what the fields say
-pub whole_image : (s : ImageFields) (at : ℕ) → is_done s.stage ≡ true → rows_left s at ≡ Whole s.image
-unfolding rows_left
-whole_image s at h = whole_at s.stage s at h
+-- and it is what the fields say
+pub whole_image : {R : Type 0} (s : ImageFields) (at : ℕ) (next : Behind RawImage R) → is_done s.stage ≡ true → image_left s at next ≡ next s.image at
+whole_image s at next h = whole_at s.stage s at next h
