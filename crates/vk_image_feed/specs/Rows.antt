@@ -14,9 +14,9 @@ unfoldable pub rows_format : Format RawImage
 rows_format = image_table.read 0 is_whole
 
 -- what is still wanted
-abbrev pub rows_left : ImageFields → ℕ → Format RawImage
+unfoldable pub rows_left : ImageFields → ℕ → Format RawImage
 rows_left s at = image_left s at is_whole
 
 -- the bytes of the field that comes next
-abbrev pub rows_width : ImageFields → ℕ
+unfoldable pub rows_width : ImageFields → ℕ
 rows_width s = image_width s

@@ -51,9 +51,11 @@ impl RawImageFeed {
     pub fn end(self) -> Result<RawImage, ObjectFail>
         ensures { (bytes : List ℕ) → Stands self bytes → IsRead result bytes }
     {
-        match self.pieces.end(&self.rows) {
+        let pieces = self.pieces;
+        let rows = self.rows;
+        match pieces.end(&rows) {
             Err(fail) => Err(fail),
-            Ok(()) => Ok(self.rows.fields.image),
+            Ok(()) => Ok(rows.image()),
         }
     }
 }

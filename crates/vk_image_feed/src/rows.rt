@@ -1,8 +1,9 @@
 // The fields of an image as those of any table.
 
-ghost use Rattle.std.specs.Prelude.{◌≡◌};
+ghost use Rattle.std.specs.Prelude.{◌≡◌, ◌<◌, ◌+◌, ◌^◌, length};
+ghost use Rattle.vk_code_read.specs.Inner.Left.{Stepped};
 ghost use Rattle.vk_image_read.specs.Stages.{is_done};
-ghost use Rattle.vk_image_feed.specs.Rows.{rows_format, rows_left};
+ghost use Rattle.vk_image_feed.specs.Rows.{rows_format, rows_left, rows_width};
 
 use std::alloc::Global;
 use vk_format::ObjectFail;
@@ -30,21 +31,54 @@ fn is_done(stage: ImageStage) -> bool
     }
 }
 
+// Fields of which none has come.
+fn no_fields(alloc: Global) -> ImageFields
+    ensures start { rows_left result 0 ≡ rows_format }
+{
+    ImageFields::new::<RawImage>(alloc)
+}
+
+// How many bytes the next field has, 0 where none is wanted.
+#[tactic(auto, unfolding(crate::specs::Rows::rows_width))]
+fn next_width(fields: &ImageFields) -> usize
+    ensures { result ≡ rows_width fields.now }
+{
+    fields.width()
+}
+
+// Takes the next field.
+fn take_next(fields: &mut ImageFields, at: u64, field: &[u8]) -> Result<(), ObjectFail>
+    requires width { length field.now ≡ rows_width fields.old }
+    requires wanted { 0 < rows_width fields.old }
+    requires place { at + rows_width fields.old < 2 ^ 64 }
+    ensures { Stepped (rows_left fields.old at) field.now result (rows_left fields.new (at + rows_width fields.old)) }
+{
+    fields.step::<RawImage>(at, field)
+}
+
 impl ImageRows {
     /// An image of which nothing has come.
     pub fn new(alloc: Global) -> ImageRows
         ensures start { rows_left result.fields 0 ≡ rows_format }
     {
         ImageRows {
-            fields: ImageFields::new::<RawImage>(alloc),
+            fields: no_fields(alloc),
         }
+    }
+
+    /// What the fields say.
+    pub fn image(self) -> RawImage
+        ensures { result ≡ self.fields.image }
+    {
+        let fields = self.fields;
+        fields.image
     }
 }
 
 impl Fields for ImageRows {
     ghost use Rattle.vk_image_read.specs.Stages.{is_done};
-    ghost use Rattle.vk_image_read.proofs.Wanted.{image_field, nothing_wanted, whole_image};
-    ghost use Rattle.vk_image_feed.specs.Rows.{is_whole, rows_left, rows_width};
+    ghost use Rattle.vk_image_feed.specs.Rows.{rows_left, rows_width};
+    ghost use Rattle.vk_image_feed.specs.Wanted.{field_wanted, none_wanted, rows_whole};
 
     type Rows = RawImage;
 
@@ -56,14 +90,14 @@ impl Fields for ImageRows {
 
     ghost rows = { λ s. s.fields.image };
 
-    ghost field = { λ s at h. image_field s.fields at is_whole h };
+    ghost field = { λ s at h. field_wanted s.fields at h };
 
-    ghost nothing = { λ s h. nothing_wanted s.fields h };
+    ghost nothing = { λ s h. none_wanted s.fields h };
 
-    ghost whole = { λ s at h. whole_image s.fields at is_whole h };
+    ghost whole = { λ s at h. rows_whole s.fields at h };
 
     fn width(&self) -> usize {
-        self.fields.width()
+        next_width(&self.fields)
     }
 
     fn is_whole(&self) -> bool {
@@ -71,6 +105,6 @@ impl Fields for ImageRows {
     }
 
     fn step(&mut self, at: u64, field: &[u8]) -> Result<(), ObjectFail> {
-        self.fields.step::<RawImage>(at, field)
+        take_next(&mut self.fields, at, field)
     }
 }
