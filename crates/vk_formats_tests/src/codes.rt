@@ -7,6 +7,7 @@ use vk_memory::Memory;
 use vk_types::{Ty, Word};
 
 pub static INT: CType = CType::Int(Ty::I32);
+
 pub static POINTER: CType = CType::Ptr {
     to: Ty::I32,
     written: true,

@@ -125,12 +125,7 @@ impl ArrayFeed {
     }
 
     /// Takes the next field, which stands at this place, of an array behind others.
-    pub fn step<R>(
-        &mut self,
-        at: u64,
-        field: &[u8],
-        before: &[RawArray],
-    ) -> Result<(), ObjectFail>
+    pub fn step<R>(&mut self, at: u64, field: &[u8], before: &[RawArray]) -> Result<(), ObjectFail>
         requires width { length field.now ≡ array_width self.old }
         requires wanted { 0 < array_width self.old }
         ensures { (next : RawArray → ℕ → Format R) → Stepped (array_left before.now self.old at next) field.now result
