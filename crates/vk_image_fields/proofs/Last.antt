@@ -1,5 +1,5 @@
 -- The last item of a list.
-use Rattle.std.proofs.Common.{◌≡◌, ℕ, suc, ◌-◌, ◌≤◌, List, [], ◌∷◌, length, get_or, Option, Some, refl, ap, sym, ◌∙◌, arith}
+use Rattle.std.proofs.Common.{◌≡◌, ℕ, suc, ◌-◌, ◌≤◌, List, [], ◌∷◌, length, get_or, Some, refl, ap, sym, ◌∙◌, arith}
 use Rattle.vk_code_format.specs.Fields.{last_of}
 
 pub last_at : {A : Type 0} (xs : List A) (d : A) → 1 ≤ length xs → last_of xs ≡ Some (get_or xs (length xs - 1) d)

@@ -1,5 +1,5 @@
 -- Where a field of an image is wanted, it is one of so many bytes.
-use Rattle.std.proofs.Common.{◌≡◌, ℕ, zero, suc, ◌+◌, ◌<◌, true, false, List, refl, arith}
+use Rattle.std.proofs.Common.{◌≡◌, ℕ, zero, suc, ◌<◌, true, List, refl, arith}
 use Rattle.std.proofs.lemmas.Bool.{false≢true}
 use Rattle.vk_code_read.specs.Inner.Left.{Behind}
 use Rattle.vk_pieces.specs.Fields.{IsField}

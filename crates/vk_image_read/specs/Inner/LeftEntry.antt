@@ -1,6 +1,5 @@
 -- What is still wanted of an entry, by what has come.
 use Rattle.std.specs.Prelude.{ℕ, ◌+◌, List, [], ◌∷◌, ◌++◌, length, map, None, slice_get}
-use Rattle.vk_object.specs.declared.tables.EntryKind.{EntryKind}
 use Rattle.vk_object.specs.declared.tables.LoopTargets.{LoopTargets}
 use Rattle.vk_object.specs.Images.{has_lanes}
 use Rattle.vk_object.specs.Parameters.{are_kinds}
@@ -14,7 +13,6 @@ use Rattle.vk_code_format.specs.Fields.{below, coded, optional}
 use Rattle.vk_code_format.specs.Parameters.{align_fits, kind_fits, kind_number as param_kind_number, param, param_kinds, param_of, value_fits}
 use Rattle.vk_code_read.specs.Inner.Left.{Behind}
 use Rattle.vk_image_fields.specs.Names.{last_name}
-use Rattle.vk_image_format.specs.declared.rows.EntryFront.{EntryFront}
 use Rattle.vk_image_format.specs.declared.rows.EntryName.{EntryName}
 use Rattle.vk_image_format.specs.declared.rows.RawEntry.{RawEntry}
 use Rattle.vk_image_format.specs.Image.{entry_kinds, is_entry_text, keeps_order, kind_number, loop_targets, loops_of, name_before, params_of, slots_of, where_some}
