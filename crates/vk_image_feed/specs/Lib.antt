@@ -1,0 +1,4 @@
+pub mod Rows
+pub mod Wanted
+pub mod Standing
+pub mod Reading

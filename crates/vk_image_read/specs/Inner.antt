@@ -1,0 +1,5 @@
+-- Definitions on which no public contract's meaning rests: what the code's own functions tell each other.
+pub mod Settled
+pub mod LeftArray
+pub mod LeftEntry
+pub mod LeftImage
