@@ -1,5 +1,6 @@
 -- The arguments of a call on lanes: when they are taken, with which words and mask, and which rule refuses others first.
-use Rattle.std.specs.Prelude.{◌≡◌, ℕ, ◌+◌, ◌*◌, ◌<◌, ◌≤◌, ◌⊎◌, Bool, true, false, List, length, map, get_or, Option, unwrap_or}
+use Rattle.std.specs.Prelude.{◌≡◌, ℕ, ◌+◌, ◌*◌, ◌<◌, ◌≤◌, ◌⊎◌, Bool, true, false, List, length, map, get_or, Option, option_map, unwrap_or}
+use Rattle.std.specs.Borrow.{Bor}
 use Rattle.vk_types.specs.declared.types.Word.{Word}
 use Rattle.vk_lanes.specs.Words.{word_in}
 use Rattle.vk_kinds.specs.declared.heads.CType.{CType}
@@ -31,7 +32,7 @@ pub record Given : Type 0 where
   pub bits : Option (List ℕ)
   pub texts : List (List ℕ)
 
-abbrev pub given : Option Str → List Str → Given
+abbrev pub given : Option (Bor (List ℕ)) → List (Bor (List ℕ)) → Given
 given bits texts = record { bits = option_map (λ s. s.now) bits; texts = map (λ s. s.now) texts }
 
 -- ---- words

@@ -1,14 +1,14 @@
 // Whether the arguments of the active lanes fit their parameters' kinds.
 
-ghost use Rattle.std.specs.Prelude.{◌≡◌, ℕ, ◌*◌, ◌<◌, ◌≤◌, ◌^◌, IfSome, IsNone, length, map, get_or, true, false, ℤ, pos, neg_ℤ, ◌-ℤ◌, ◌*ℤ◌, ◌≤ℤ◌, not};
+ghost use Rattle.std.specs.Prelude.{◌≡◌, ℕ, ◌*◌, ◌<◌, ◌≤◌, ◌^◌, IfSome, IsNone, length, map, get_or, true, false, ℤ, pos, neg_ℤ, ◌-ℤ◌, ◌*ℤ◌, ◌≤ℤ◌, ◌%◌};
 ghost use Rattle.std.specs.Bool.{Decides};
+ghost use Rattle.std.specs.Int.{w32, cast_signed};
+ghost use Rattle.vk_types.specs.Numbers.{wrap_number};
 ghost use Rattle.vk_kinds.specs.declared.kinds.Kind.TheVariants.{Vector};
 ghost use Rattle.vk_kinds.specs.declared.kinds.Step.TheVariants.{By};
-ghost use Rattle.vk_kinds.specs.declared.heads.CType.TheVariants.{Int};
 ghost use Rattle.vk_lanes.specs.Masks.{is_on, lane_count};
 ghost use Rattle.vk_meaning.specs.Types.{type_at};
 ghost use Rattle.vk_meaning.specs.Lanes.{AreFitting, FitsFrom, IsFirstActive, IsMoved, IsWord, number_as, size_of, step_of};
-ghost use Rattle.std.specs.Int.{w32, cast_signed};
 ghost use Rattle.vk_arguments.specs.Arguments.{IsLeastPair, IsMisfitAt, kinds_of, passed};
 ghost use Rattle.vk_arguments.specs.Inner.Fitting.{AreWords, IsFirstMisfit};
 

@@ -1,7 +1,7 @@
 // The words of the arguments, from their texts.
 
-ghost use Rattle.std.specs.Prelude.{◌≡◌, ℕ, ◌+◌, ◌*◌, ◌<◌, ◌≤◌, ◌^◌, length, map, IfOk, IfErr, IsErrOf, string_bytes};
-ghost use Rattle.vk_meaning.specs.Types.{type_at};
+ghost use Rattle.std.specs.Prelude.{◌≡◌, ℕ, ◌<◌, ◌≤◌, ◌^◌, List, length, map, IfOk, IfErr, IsErrOf};
+ghost use Rattle.vk_kinds.specs.declared.heads.CType.{CType as CTypeOf};
 ghost use Rattle.vk_meaning.specs.World.{Array};
 ghost use Rattle.vk_arguments.specs.Arguments.{IsLeastPair, IsWrongAt};
 ghost use Rattle.vk_arguments.specs.Inner.Rows.{AreRows, AreValues, IsRow, IsWrongIn};

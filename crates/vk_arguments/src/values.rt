@@ -1,6 +1,6 @@
 // What the texts of values stand for.
 
-ghost use Rattle.std.specs.Prelude.{◌≡◌, ℕ, List, Option, IfSome, option_map};
+ghost use Rattle.std.specs.Prelude.{◌≡◌, ℕ, List, [], Option, IfSome, option_map};
 ghost use Rattle.vk_types.specs.declared.types.Word.{Word as WordOf};
 ghost use Rattle.vk_kinds.specs.declared.heads.CType.{CType as CTypeOf};
 ghost use Rattle.vk_meaning.specs.World.{Array};
@@ -28,7 +28,6 @@ pub trait Values {
 pub struct Integers;
 
 impl Values for Integers {
-    ghost use Rattle.std.specs.Prelude.{[]};
     ghost use Rattle.vk_arguments.specs.Integers.{integer_word};
 
     ghost meaning = { λ _. integer_word };

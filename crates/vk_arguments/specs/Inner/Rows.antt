@@ -25,11 +25,11 @@ pub record IsRow (arrays : List Array) (n : ℕ) (t : CType) (values : List (Opt
   pub typed : (lane : ℕ) → lane < n → IsValue arrays t (word_at row lane)
 
 -- so it is with the first ARGs, whose rows stand one behind another
-pub record AreRows (word : Meaning) (arrays : List Array) (n count : ℕ) (types : List CType) (texts : List (List ℕ)) (words : List Word) : Type 0 where
-  pub size : length words ≡ count * n
+pub record AreRows (word : Meaning) (arrays : List Array) (n count : ℕ) (types : List CType) (texts : List (List ℕ)) (rows : List Word) : Type 0 where
+  pub size : length rows ≡ count * n
   pub right : (p lane : ℕ) → p < count → IsFaultOfValues n (values_at word types texts p) lane → ⊥
-  pub words : (p lane : ℕ) → p < count → lane < n → value_of_lane (values_at word types texts p) lane ≡ Some (word_at words (p * n + lane))
-  pub typed : (p lane : ℕ) → p < count → lane < n → IsValue arrays (type_at types p) (word_at words (p * n + lane))
+  pub words : (p lane : ℕ) → p < count → lane < n → value_of_lane (values_at word types texts p) lane ≡ Some (word_at rows (p * n + lane))
+  pub typed : (p lane : ℕ) → p < count → lane < n → IsValue arrays (type_at types p) (word_at rows (p * n + lane))
 
 -- a lane of one of the first ARGs is wrong
 pub record IsWrongIn (word : Meaning) (n count : ℕ) (types : List CType) (texts : List (List ℕ)) (parameter lane : ℕ) : Type 0 where

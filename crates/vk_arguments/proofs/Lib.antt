@@ -1,0 +1,4 @@
+mod Numerals
+mod Parts
+mod Ranges
+mod Rows
