@@ -1,0 +1,4 @@
+pub mod Inner
+pub mod Letters
+pub mod Selection
+pub mod Variants
