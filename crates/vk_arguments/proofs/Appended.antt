@@ -58,7 +58,7 @@ whole_row arrays n t values row typed few size words = record {
 -- no rows
 pub rows_none : (word : Meaning) (arrays : List Array) (n : ℕ) (types : List CType) (texts : List (List ℕ)) → AreRows word arrays n 0 types texts []
 rows_none word arrays n types texts = record {
-  size = refl;
+  size = omega arith;
   right = λ p lane h. absurd (omega arith);
   words = λ p lane h. absurd (omega arith);
   typed = λ p lane h. absurd (omega arith);

@@ -86,5 +86,8 @@ pub typed_rows : (word : Meaning) (arrays : List Array) (n : ℕ) (ts : List CTy
 typed_rows word arrays n ts texts rows mask are = record {
   canonical = λ p j here lane. (are.typed p j here lane).word;
   pointed = λ p j here lane on.
-      subst (IsPointed arrays (type_at ts p)) (sym (datum_at 0 ts (passed n rows) p j here)) (are.typed p j here lane).pointed;
+      let same : 0 + p ≡ p = omega arith in
+      let datum : argument ts (passed n rows) p j ≡ datum_of (type_at ts p) (passed n rows p j) =
+      datum_at 0 ts (passed n rows) p j here ∙ ap (λ r. datum_of (type_at ts p) (passed n rows r j)) same in
+      subst (IsPointed arrays (type_at ts p)) (sym datum) (are.typed p j here lane).pointed;
 }

@@ -26,10 +26,10 @@ one_rule word c g A5 A4 a b x y p q = let no = p.0 in let yes = q.0 in absurd (c
 one_rule word c g A5 A2 a b x y p q = let no = p.0 in let yes = q.0 in absurd (cc)
 one_rule word c g A4 A5 a b x y p q = let yes = p.0 in let no = q.0 in absurd (cc)
 one_rule word c g A2 A5 a b x y p q = let yes = p.0 in let no = q.0 in absurd (cc)
-one_rule word c g A4 A4 a b x y p q = (refl, same_pair _ a b x y p.1 q.1)
+one_rule word c g A4 A4 a b x y p q = let same = same_pair _ a b x y p.1 q.1 in (refl, same.0, same.1)
 one_rule word c g A4 A2 a b x y p q = absurd (q.1 a b p.1.is)
 one_rule word c g A2 A4 a b x y p q = absurd (p.1 x y q.1.is)
-one_rule word c g A2 A2 a b x y p q = (refl, same_pair _ a b x y p.2 q.2)
+one_rule word c g A2 A2 a b x y p q = let same = same_pair _ a b x y p.2 q.2 in (refl, same.0, same.1)
 
 pub taken_apart : (word : Meaning) (c : Called) (g : Given) (rule : CallRule) (a b : ℕ) → AreTaken word c g → IsRefused word c g rule a b → ⊥
 taken_apart word c g A1 a b t q = q

@@ -1,9 +1,10 @@
 // Whether the arguments of the active lanes fit their parameters' kinds.
 
-ghost use Rattle.std.specs.Prelude.{◌≡◌, ℕ, ◌*◌, ◌<◌, ◌≤◌, ◌^◌, IfSome, IsNone, length, map, get_or, true, false, ℤ, pos, neg_ℤ, ◌-ℤ◌, ◌*ℤ◌, ◌≤ℤ◌, ◌%◌};
+ghost use Rattle.std.specs.Prelude.{◌≡◌, ℕ, ◌*◌, ◌<◌, ◌≤◌, ◌^◌, IfSome, IsNone, length, map, get_or, true, false, ℤ, pos, neg_ℤ, ◌-ℤ◌, ◌+ℤ◌, ◌*ℤ◌, ◌≤ℤ◌, ◌/◌, ◌%◌};
 ghost use Rattle.std.specs.Bool.{Decides};
 ghost use Rattle.std.specs.Int.{w32, cast_signed};
-ghost use Rattle.vk_types.specs.Numbers.{wrap_number};
+ghost use Rattle.std.specs.Ordering.{int_eq};
+ghost use Rattle.vk_types.specs.Numbers.{IsInRange, wrap_number};
 ghost use Rattle.vk_kinds.specs.declared.kinds.Kind.TheVariants.{Vector};
 ghost use Rattle.vk_kinds.specs.declared.kinds.Step.TheVariants.{By};
 ghost use Rattle.vk_lanes.specs.Masks.{is_on, lane_count};
@@ -174,28 +175,73 @@ fn times(to: usize, from: usize, step: i128) -> i128
     requires low { neg_ℤ (pos (2 ^ 64)) ≤ℤ step }
     requires high { step ≤ℤ pos (2 ^ 64) }
     ensures product { result ≡ (pos to -ℤ pos from) *ℤ step }
-    ensures low { neg_ℤ (pos (2 ^ 72)) ≤ℤ result }
-    ensures high { result ≤ℤ pos (2 ^ 72) }
+    ensures low { neg_ℤ (pos (2 ^ 73)) ≤ℤ result }
+    ensures high { result ≤ℤ pos (2 ^ 73) }
 {
-    (to as i128 - from as i128) * step
+    product(distance(to, from), step)
+}
+
+// How many lanes one is behind another.
+fn distance(to: usize, from: usize) -> i128
+    requires to { to < 256 }
+    requires from { from < 256 }
+    ensures distance { result ≡ pos to -ℤ pos from }
+    ensures low { neg_ℤ (pos 256) ≤ℤ result }
+    ensures high { result ≤ℤ pos 256 }
+{
+    to as i128 - from as i128
+}
+
+fn product(lanes: i128, step: i128) -> i128
+    requires from { neg_ℤ (pos 256) ≤ℤ lanes }
+    requires to { lanes ≤ℤ pos 256 }
+    requires low { neg_ℤ (pos (2 ^ 64)) ≤ℤ step }
+    requires high { step ≤ℤ pos (2 ^ 64) }
+    ensures { result ≡ lanes *ℤ step }
+{
+    lanes * step
 }
 
 // Whether a word of the type is another one moved by so much: modulo the type's range, or for a pointer in one array.
 fn is_moved(ty: CType, by: i128, from: Word, to: Word) -> bool
-    requires low { neg_ℤ (pos (2 ^ 72)) ≤ℤ by }
-    requires high { by ≤ℤ pos (2 ^ 72) }
+    requires low { neg_ℤ (pos (2 ^ 73)) ≤ℤ by }
+    requires high { by ≤ℤ pos (2 ^ 73) }
     requires from { IsWord ty from.0 }
     requires to { IsWord ty to.0 }
     ensures { Decides result (IsMoved ty by from.0 to.0) }
 {
     match ty {
         CType::Void => true,
-        CType::Int(t) => number(t, to) == wrapped(t, number(t, from) + by),
+        CType::Int(t) => is_moved_number(t, by, number(t, from), number(t, to)),
         CType::Ptr { .. } => {
-            from.0 / (1 << 32) == to.0 / (1 << 32)
-                && offset(to) == wrapped(Ty::I32, offset(from) + by)
+            array(to) == array(from) && is_moved_number(Ty::I32, by, offset(from), offset(to))
         }
     }
+}
+
+// Whether a number is another one of the type moved by so much.
+fn is_moved_number(t: Ty, by: i128, from: i128, to: i128) -> bool
+    requires low { neg_ℤ (pos (2 ^ 73)) ≤ℤ by }
+    requires high { by ≤ℤ pos (2 ^ 73) }
+    requires from { IsInRange t from }
+    ensures { Decides result (to ≡ wrap_number t (from +ℤ by)) }
+{
+    is_equal(to, wrapped(t, sum(t, from, by)))
+}
+
+fn is_equal(left: i128, right: i128) -> bool
+    ensures { result ≡ int_eq left right }
+{
+    left == right
+}
+
+fn sum(t: Ty, value: i128, by: i128) -> i128
+    requires low { neg_ℤ (pos (2 ^ 73)) ≤ℤ by }
+    requires high { by ≤ℤ pos (2 ^ 73) }
+    requires value { IsInRange t value }
+    ensures { result ≡ value +ℤ by }
+{
+    value + by
 }
 
 // The number of the type that differs from a number by a multiple of 2 to the width.
@@ -205,9 +251,17 @@ fn wrapped(t: Ty, value: i128) -> i128
     number(t, wrap(t, value))
 }
 
+// The number of the array of a pointer.
+fn array(pointer: Word) -> u64
+    ensures { result ≡ pointer.0 / 2 ^ 32 }
+{
+    pointer.0 / (1 << 32)
+}
+
 // The offset of a pointer.
 fn offset(pointer: Word) -> i128
-    ensures { result ≡ cast_signed w32 (pointer.0 % 2 ^ 32) }
+    ensures offset { result ≡ cast_signed w32 (pointer.0 % 2 ^ 32) }
+    ensures in_range { IsInRange Ty.I32 result }
 {
     i128::from(((pointer.0 % (1 << 32)) as u32).cast_signed())
 }

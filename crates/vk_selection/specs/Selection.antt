@@ -27,9 +27,9 @@ is_definition texts name (function f) = is_some f.body && bytes_eq (text_of text
 is_definition texts name (object o) = false
 is_definition texts name (lost_line d) = false
 
--- the unit defines one
-abbrev pub is_defined : Subject → (name : List ℕ) → Bool
-is_defined unit name = list_any (is_definition unit.texts name) unit.items
+-- one of the items does
+abbrev pub is_defined : (texts : List (List ℕ)) → List ItemTree → (name : List ℕ) → Bool
+is_defined texts items name = list_any (is_definition texts name) items
 
 -- ---- variants
 
@@ -37,7 +37,7 @@ is_defined unit name = list_any (is_definition unit.texts name) unit.items
 abbrev pub lanes_with : Subject → (image : Isa) → (vl : ℕ) → FunctionTree → Variant → Option SignatureTree → Option ℕ
 lanes_with unit image vl g v None = None
 lanes_with unit image vl g v (Some s) =
-    cond (uses image v.front.isa && is_defined unit (text_of unit.texts g.name)) (lanes_at v.front.isa v.front.len (wds (head_of g) s) vl) None
+    cond (uses image v.front.isa && is_defined unit.texts unit.items (text_of unit.texts g.name)) (lanes_at v.front.isa v.front.len (wds (head_of g) s) vl) None
 
 abbrev pub lanes_from : Subject → (image : Isa) → (vl : ℕ) → Variant → Option FunctionTree → Option ℕ
 lanes_from unit image vl v None = None
@@ -56,7 +56,7 @@ if_there unit image vl (Some v) = option_map (λ lanes. Vector v lanes) (lanes_i
 abbrev pub scalar_from : Subject → (name : List ℕ) → (function : ℕ) → List FunctionTree → Option Selected
 scalar_from unit name f [] = None
 scalar_from unit name f (g ∷ gs) =
-    cond (bytes_eq (text_of unit.texts g.name) name) (cond (has_directives g.directives && is_defined unit name) (Some (Scalar f)) None) (scalar_from unit name (f + 1) gs)
+    cond (bytes_eq (text_of unit.texts g.name) name) (cond (has_directives g.directives && is_defined unit.texts unit.items name) (Some (Scalar f)) None) (scalar_from unit name (f + 1) gs)
 
 -- ---- both
 

@@ -1,10 +1,9 @@
 //! What a name selects in a unit that is called with a letter: a variant, or the scalar code of a function with directives.
 #![tactic(auto)]
 
-pub mod laws;
 pub mod letters;
 pub mod places;
 pub mod selection;
 
 pub use places::Variant;
-pub use selection::{Selected, callee_of, selected_in};
+pub use selection::{Selected, selected_in};

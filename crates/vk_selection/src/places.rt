@@ -1,13 +1,16 @@
 // The variants of a unit by the places of their names.
 
-ghost use Rattle.std.specs.Prelude.{◌≡◌, ℕ, ◌+◌, ◌-◌, ◌<◌, ◌≤◌, length, map, slice_get, Some, IfOk, IfErr, IfSome, IsNone, IsTrue, true, false, get_or, [], List};
+ghost use Rattle.std.specs.Prelude.{◌≡◌, ℕ, ◌<◌, length, map, slice_get, Some, IfSome, IsNone, false, get_or, []};
 ghost use Rattle.std.specs.Str.{bytes_eq};
-ghost use Rattle.vk_kinds.specs.declared.kinds.Length.{Length as LengthOf};
 ghost use Rattle.vk_ast.specs.Units.{FunctionTree};
 ghost use Rattle.vk_rules.specs.Functions.{directives_at, functions_of};
 ghost use Rattle.vk_rules.specs.Verdicts.{judged};
-ghost use Rattle.vk_selection.specs.Inner.{IsFirstPlace, IsLeft, IsPlace};
-ghost use Rattle.vk_selection.specs.Variants.{variants_at, variants_of};
+ghost use Rattle.vk_kinds.specs.Sizes.{SignatureTree};
+ghost use Rattle.vk_rules_book.specs.Directives.{signatures};
+ghost use Rattle.vk_rules_book.specs.Scopes.{text_of};
+ghost use Rattle.vk_rules_book.specs.Signatures.{head_of};
+ghost use Rattle.vk_selection.specs.Inner.{IsFirstPlace, IsPlace};
+ghost use Rattle.vk_selection.specs.Variants.{variants_at, variants_of, variants_with};
 
 use vk_kinds::{Length, lengths};
 use vk_rules::Checked;
@@ -30,7 +33,7 @@ pub fn place_of(names: &NameList, text: &[u8]) -> Option<usize>
     ensures none { IsNone result → (j : ℕ) → j < length names.now → bytes_eq (get_or names.now j []) text.now ≡ false }
 {
     for place in 0..names.len() {
-        if names.text(place) == text {
+        if is_same(names.text(place), text) {
             return Some(place);
         }
     }
@@ -50,6 +53,13 @@ pub fn variant_at(unit: &Checked, place: usize) -> Variant
         }
     }
     unreachable!()
+}
+
+// Whether two texts have the same bytes.
+pub(crate) fn is_same(left: &[u8], right: &[u8]) -> bool
+    ensures { result ≡ bytes_eq left.now right.now }
+{
+    left == right
 }
 
 // The variant at a place among those of a function, else how many places there are behind these.

@@ -2,14 +2,17 @@
 
 ghost use Rattle.std.specs.Prelude.{◌≡◌, ℕ, ◌≤◌, ◌<◌, IfOk, IfSome, IsTrue, Some, length, slice_get};
 ghost use Rattle.vk_kinds.specs.declared.kinds.Isa.TheVariants.{S};
+ghost use Rattle.vk_kinds.specs.declared.kinds.Len.TheVariants.{Scalable};
 ghost use Rattle.vk_kinds.specs.Lengths.{is_vector_length};
+ghost use Rattle.vk_ast.specs.Units.{item_of, items_of};
+ghost use Rattle.vk_rules_book.specs.Scopes.{text_of};
 ghost use Rattle.vk_rules.specs.Functions.{directives_at, functions_of};
 ghost use Rattle.vk_rules.specs.UnitNames.{HaveIdentifiers};
 ghost use Rattle.vk_rules.specs.Verdicts.{judged};
-ghost use Rattle.vk_selection.specs.Selection.{is_defined, lanes_in, scalar_from, selected_in};
+ghost use Rattle.vk_selection.specs.Selection.{is_defined, is_definition, lanes_in, scalar_from, selected_in};
 
 use crate::letters::uses;
-use crate::places::{Variant, place_of, variant_at};
+use crate::places::{Variant, is_same, place_of, variant_at};
 use std::alloc::Global;
 use vk_ast::{Item, NameId, Unit};
 use vk_kinds::{Isa, lanes_at, wds};
@@ -70,7 +73,7 @@ fn scalar_of(unit: &Checked, name: &[u8]) -> Option<Selected>
     ensures { result ≡ scalar_from (judged unit.now) name.now 0 (functions_of (judged unit.now)) }
 {
     for function in 0..unit.functions() {
-        if unit.name(function) == name {
+        if is_same(unit.name(function), name) {
             if unit.directives(function) > 0 && is_defined(unit.unit(), name) {
                 return Some(Selected::Scalar { function });
             }
@@ -82,15 +85,27 @@ fn scalar_of(unit: &Checked, name: &[u8]) -> Option<Selected>
 
 // Whether a unit defines a function with this name.
 fn is_defined(unit: &Unit, name: &[u8]) -> bool
+    ensures { result ≡ is_defined unit.now.names (items_of unit.now) name.now }
 {
-    for item in &unit.items {
-        if let Item::Function(function) = item {
-            if function.body.is_some() && text(unit, function.name) == name {
-                return true;
-            }
+    for number in 0..unit.items.len() {
+        if is_definition(unit, &unit.items[number], name) {
+            return true;
         }
     }
     false
+}
+
+// Whether an item of the unit defines it.
+fn is_definition(unit: &Unit, item: &Item, name: &[u8]) -> bool
+    ensures { result ≡ is_definition unit.now.names name.now (item_of item.now) }
+{
+    match item {
+        Item::Function(function) => {
+            function.body.is_some() && is_same(text(unit, function.name), name)
+        }
+        Item::Object(_) => false,
+        Item::Lost(_) => false,
+    }
 }
 
 // The text of a name, empty where the unit has none.
