@@ -1,5 +1,5 @@
 -- The rows of words of the arguments.
-use Rattle.std.proofs.Common.{◌≡◌, ℕ, ◌+◌, ◌*◌, ◌<◌, ◌≤◌, ◌⊎◌, List, [], ◌∷◌, ◌++◌, length, Option, Some, None, ap, sym, subst, refl, arith, below_more, inl, inr, ◌∙◌}
+use Rattle.std.proofs.Common.{◌≡◌, ℕ, ◌+◌, ◌*◌, ◌<◌, ◌≤◌, ◌⊎◌, zero, suc, List, [], ◌∷◌, ◌++◌, length, map, get_or, Bor, Err, IsErrOf, Option, Some, ap, sym, subst, refl, arith, below_more, inl, inr, ◌∙◌}
 use Rattle.std.proofs.Math.ListN.{length-append}
 use Rattle.std.proofs.Math.Seq.{get_or-append_seam}
 use Rattle.std.proofs.lemmas.Bool.{cases_lt, cases_order}
@@ -13,6 +13,8 @@ use Rattle.vk_arguments.specs.Arguments.{IsLeastPair, IsWrongAt}
 use Rattle.vk_arguments.specs.Texts.{IsFaultOfValues, Meaning, value_of_lane, values_at}
 use Rattle.vk_arguments.specs.Typed.{IsValue}
 use Rattle.vk_arguments.specs.Inner.Rows.{AreRows, AreValues, IsRow, IsWrongIn, word_at}
+use Rattle.vk_arguments.specs.declared.rows.NoWords.{NoWords}
+use Rattle.vk_arguments.specs.declared.rows.NoWords.TheVariants.{Wrong}
 use Rattle.vk_arguments.proofs.Parts.{lane_value}
 
 -- ---- a row
@@ -147,3 +149,20 @@ none_is_wrong word arrays n types texts words same are p lane fault = elim fault
   | inl wrong ↦ are.right p lane wrong.0 wrong.2
   | inr rest ↦ elim rest [ inl missing ↦ omega arith | inr extra ↦ omega arith ]
 ]
+
+-- ---- what was read and told
+
+-- the type and the text that were read at an index
+pub type_read : (ts : List CType) (k : ℕ) (d : CType) → k < length ts → get_or ts k d ≡ type_at ts k
+type_read [] k d h = absurd (omega arith)
+type_read (t ∷ ts) zero d h = refl
+type_read (t ∷ ts) (suc k) d h = type_read ts k d (omega arith)
+
+pub text_read : (texts : List (Bor (List ℕ))) (k : ℕ) (d : Bor (List ℕ)) → k < length texts → (get_or texts k d).now ≡ get_or (map (λ (s : Bor (List ℕ)). s.now) texts) k []
+text_read [] k d h = absurd (omega arith)
+text_read (t ∷ ts) zero d h = refl
+text_read (t ∷ ts) (suc k) d h = text_read ts k d (omega arith)
+
+-- what holds of the fault that is given holds of what it was given as
+pub given_wrong : {T : Type 0} (P : ℕ → ℕ → Type 0) (a b p lane : ℕ) → IsErrOf {T = T} {E = NoWords} (Err (Wrong a b)) (Wrong p lane) → P a b → P p lane
+given_wrong P a b p lane e h = let first : a ≡ p = cc in let second : b ≡ lane = cc in subst (λ k. P k lane) first (subst (λ k. P a k) second h)

@@ -1,12 +1,8 @@
 -- The integers that a text writes.
-use Rattle.std.proofs.Common.{◌≡◌, ℕ, ◌<◌, ◌≤◌, ◌≢◌, ◌^◌, List, [], ◌∷◌, ◌++◌, length, get_or, cond, eqb, refl, ap, arith, Option, Some, None, map, sym, ◌∙◌, true, false, Ok, Err, Result, ℤ, pos, neg_ℤ, subst, inl, inr, zero, suc, OkIff, Bool, option_map, IsUtf8, option_and_then, append_assoc, slice_get}
-use Rattle.std.specs.Option.{option_flatten}
-use Rattle.std.proofs.Math.ListN.{length-append}
-use Rattle.std.proofs.Math.Seq.{drop-append-add, get_or-append_seam}
+use Rattle.std.proofs.Common.{◌≡◌, ℕ, ◌<◌, ◌≤◌, ◌≢◌, ◌^◌, List, [], ◌∷◌, length, get_or, cond, eqb, refl, ap, arith, Option, Some, None, sym, ◌∙◌, true, false, Ok, Err, Result, ℤ, pos, neg_ℤ, subst, inl, inr, zero, suc, OkIff, Bool, option_map, option_and_then}
 use Rattle.std.proofs.lemmas.Bool.Decides.{nat_tests}
 use Rattle.std.proofs.lemmas.Bool.{cases_eq}
 use Rattle.std.proofs.lemmas.Str.Parse.{IsNumeralModel, numerals_by_value, tells_all_ascii_digits, parse_signed_minus, parse_signed_plain}
-use Rattle.std.proofs.lemmas.Str.{IsUtf8-drop, IsCharBoundary-after_ascii}
 use Rattle.std.specs.Result.{result_ok}
 use Rattle.std.specs.Str.{all_ascii_digits}
 use Rattle.std.specs.Str.Parse.{digits_value, ParsesSigned}
@@ -95,4 +91,3 @@ if_in_range_only t false x z h e = cc
 pub number_in_range : (t : Ty) (o : Option ℤ) (z : ℤ) → option_and_then (if_in_range t) o ≡ Some z → IsInRange t z
 number_in_range t None z e = cc
 number_in_range t (Some x) z e = if_in_range_only t (is_in_range t x) x z (range_told t x) e
-

@@ -1,6 +1,5 @@
 -- The values of a text, and their lanes.
 use Rattle.std.proofs.Common.{◌≡◌, ℕ, ◌<◌, ◌≢◌, List, [], ◌∷◌, ◌++◌, length, get_or, cond, eqb, refl, ap, arith, Option, Some, None, map, sym, ◌∙◌, subst, zero, suc, IsUtf8, append_assoc, slice_get, IfSome}
-use Rattle.std.specs.List.{AllByRecursion}
 use Rattle.std.specs.Option.{option_flatten}
 use Rattle.std.proofs.Math.ListN.{length-append}
 use Rattle.std.proofs.Math.Seq.{drop-append-add, get_or-append_seam}
@@ -67,4 +66,3 @@ text_after text part after u e =
     let comma : get_or (part ++ (44 ∷ after)) (length part) 0 ≡ 44 = get_or-append_seam part 44 after 0 in
     let inside : length part < length (part ++ (44 ∷ after)) = omega (arith, length-append part (44 ∷ after)) in
     subst IsUtf8 (drop-append-add part (44 ∷ after) 1) (IsUtf8-drop _ _ whole (IsCharBoundary-after_ascii (part ++ (44 ∷ after)) (length part) whole inside (omega arith)))
-

@@ -1,5 +1,5 @@
 -- Words that are equal at all parameters and lanes.
-use Rattle.std.proofs.Common.{◌≡◌, ℕ, zero, suc, ◌+◌, ◌*◌, ◌<◌, ◌≤◌, Bool, true, List, [], ◌∷◌, length, get_or, ℤ, pos, ◌-ℤ◌, ◌*ℤ◌, ap, sym, subst, refl, arith, inl, inr, ◌∙◌}
+use Rattle.std.proofs.Common.{◌≡◌, ℕ, zero, suc, ◌+◌, ◌<◌, ◌≤◌, Bool, true, List, [], ◌∷◌, length, get_or, Option, unwrap_or, Err, IsErrOf, ℤ, pos, ◌-ℤ◌, ◌*ℤ◌, ap, sym, subst, refl, arith, inl, inr, ◌∙◌}
 use Rattle.std.proofs.lemmas.Bool.{cases_lt}
 use Rattle.vk_types.specs.declared.types.Word.{Word}
 use Rattle.vk_kinds.specs.declared.heads.CType.{CType}
@@ -7,13 +7,16 @@ use Rattle.vk_kinds.specs.declared.heads.CType.TheVariants.{Void}
 use Rattle.vk_kinds.specs.declared.kinds.Kind.{Kind}
 use Rattle.vk_kinds.specs.declared.kinds.Kind.TheVariants.{Vector, Uniform, Linear, Ref, Val, Uval}
 use Rattle.vk_meaning.specs.World.{Array}
-use Rattle.vk_meaning.specs.Data.{Datum, nothing}
+use Rattle.vk_meaning.specs.Data.{nothing}
 use Rattle.vk_meaning.specs.Types.{type_at}
-use Rattle.vk_meaning.specs.Lanes.{AreFitting, AreTyped, FitsFrom, IsFirstActive, IsMoved, IsPointed, Words, argument, data_from, datum_of, number_as, step_of}
-use Rattle.vk_arguments.specs.Arguments.{IsLeastPair, IsMisfitAt, passed}
-use Rattle.vk_arguments.specs.Texts.{Meaning}
-use Rattle.vk_arguments.specs.Typed.{IsValue}
-use Rattle.vk_arguments.specs.Inner.Rows.{AreRows, word_at}
+use Rattle.vk_meaning.specs.Lanes.{AreFitting, AreTyped, FitsFrom, IsMoved, IsPointed, Words, argument, data_from, datum_of, number_as, step_of}
+use Rattle.vk_ends.specs.declared.ends.CallFault.{CallFault}
+use Rattle.vk_ends.specs.declared.ends.CallRule.TheVariants.{A2}
+use Rattle.vk_arguments.specs.declared.arguments.NoArguments.{NoArguments}
+use Rattle.vk_arguments.specs.declared.arguments.NoArguments.TheVariants.{Refused}
+use Rattle.vk_arguments.specs.Arguments.{AreTaken, Called, Given, IsLeastPair, IsMisfitAt, IsRefused, IsWrongAt, passed, words_in}
+use Rattle.vk_arguments.specs.Texts.{Meaning, is_taken_mask, mask_of}
+use Rattle.vk_arguments.specs.Inner.Rows.{AreRows}
 
 -- the type of a parameter that is not there
 no_type : (ts : List CType) (q : ℕ) → length ts ≤ q → type_at ts q ≡ Void
@@ -91,3 +94,34 @@ typed_rows word arrays n ts texts rows mask are = record {
       datum_at 0 ts (passed n rows) p j here ∙ ap (λ r. datum_of (type_at ts p) (passed n rows r j)) same in
       subst (IsPointed arrays (type_at ts p)) (sym datum) (are.typed p j here lane).pointed;
 }
+
+-- ---- the answers of a call
+
+passed_same : (word : Meaning) (arrays : List Array) (n : ℕ) (ts : List CType) (texts : List (List ℕ)) (rows : List Word) → AreRows word arrays n (length ts) ts texts rows →
+    AreSame ts n (passed n rows) (words_in word ts texts)
+passed_same word arrays n ts texts rows are p j here lane = sym (ap (λ (o : Option Word). (unwrap_or o (record { 0 = 0 })).0) (are.words p j here lane))
+
+pub unfit : (word : Meaning) (arrays : List Array) (c : Called) (g : Given) (items seen : List Word) (mask : ℕ → Bool) (p l : ℕ) → is_taken_mask c.lanes c.takes_mask g.bits ≡ true →
+    ((q j : ℕ) → IsWrongAt word c.lanes c.types g.texts q j → ⊥) → AreRows word arrays c.lanes (length c.types) c.types g.texts items → seen ≡ items → mask ≡ mask_of c.lanes g.bits →
+    IsLeastPair (IsMisfitAt c.types c.kinds c.lanes (passed c.lanes seen) mask) p l → IsRefused word c g A2 p l
+unfit word arrays c g items seen mask p l is right are same on least = (
+  is,
+  right,
+  least_same c.types c.kinds c.lanes (passed c.lanes items) (words_in word c.types g.texts) (mask_of c.lanes g.bits) p l (passed_same word arrays c.lanes c.types g.texts items are)
+      (subst (λ m. IsLeastPair (IsMisfitAt c.types c.kinds c.lanes (passed c.lanes items) m) p l) on
+      (subst (λ ws. IsLeastPair (IsMisfitAt c.types c.kinds c.lanes (passed c.lanes ws) mask) p l) same least)),
+)
+
+pub taken : (word : Meaning) (arrays : List Array) (c : Called) (g : Given) (items seen : List Word) (mask : ℕ → Bool) → is_taken_mask c.lanes c.takes_mask g.bits ≡ true →
+    ((q j : ℕ) → IsWrongAt word c.lanes c.types g.texts q j → ⊥) → AreRows word arrays c.lanes (length c.types) c.types g.texts items → seen ≡ items → mask ≡ mask_of c.lanes g.bits →
+    AreFitting c.types c.kinds c.lanes (passed c.lanes seen) mask → AreTaken word c g
+taken word arrays c g items seen mask is right are same on fitting = record {
+  mask = is;
+  values = right;
+  fitting = fitting_same c.types c.kinds c.lanes (passed c.lanes items) (words_in word c.types g.texts) (mask_of c.lanes g.bits) (passed_same word arrays c.lanes c.types g.texts items are)
+      (subst (λ m. AreFitting c.types c.kinds c.lanes (passed c.lanes items) m) on (subst (λ ws. AreFitting c.types c.kinds c.lanes (passed c.lanes ws) mask) same fitting));
+}
+
+-- what holds of the refusal that is given holds of what it was given as
+pub given_refused : {T : Type 0} (P : CallFault → Type 0) (x : NoArguments) (f h : CallFault) → IsErrOf {T = T} {E = NoArguments} (Err x) (Refused h) → x ≡ Refused f → P f → P h
+given_refused P x f h e made p = let same : f ≡ h = cc in subst P same p

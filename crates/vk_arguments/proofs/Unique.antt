@@ -1,5 +1,5 @@
 -- Arguments have one answer.
-use Rattle.std.proofs.Common.{◌≡◌, ℕ, ◌<◌, arith, inl, inr, refl, sym, ◌∙◌}
+use Rattle.std.proofs.Common.{◌≡◌, ℕ, arith, inl, inr, refl, sym, ◌∙◌}
 use Rattle.vk_ends.specs.declared.ends.CallRule.{CallRule}
 use Rattle.vk_ends.specs.declared.ends.CallRule.TheVariants.{A1, A2, A3, A4, A5}
 use Rattle.vk_arguments.specs.Arguments.{AreTaken, Called, Given, IsLeastPair, IsRefused}

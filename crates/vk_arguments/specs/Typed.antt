@@ -1,5 +1,5 @@
 -- Words that are values of a type.
-use Rattle.std.specs.Prelude.{ℕ, List}
+use Rattle.std.specs.Prelude.{List}
 use Rattle.vk_types.specs.declared.types.Word.{Word}
 use Rattle.vk_kinds.specs.declared.heads.CType.{CType}
 use Rattle.vk_meaning.specs.World.{Array}

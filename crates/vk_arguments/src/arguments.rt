@@ -72,9 +72,7 @@ pub fn arguments_of<V: Values>(
         Err(NoWords::Memory) => return Err(NoArguments::Memory),
     };
     match first_misfit(callee, &words, &mask) {
-        Some((parameter, lane)) => {
-            Err(refused(CallRule::A2, parameter as u32, lane as u32))
-        }
+        Some((parameter, lane)) => { Err(refused(CallRule::A2, parameter as u32, lane as u32)) }
         None => Ok(Arguments { mask, words }),
     }
 }

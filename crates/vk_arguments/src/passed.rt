@@ -27,5 +27,8 @@ pub fn word_of(words: &[Word], lanes: usize, parameter: usize, lane: usize) -> W
     requires lanes { lanes ≤ 256 }
     ensures { result.0 ≡ passed lanes words.now parameter lane }
 {
-    words.get(parameter * lanes + lane).copied().unwrap_or(Word(0))
+    words
+        .get(parameter * lanes + lane)
+        .copied()
+        .unwrap_or(Word(0))
 }

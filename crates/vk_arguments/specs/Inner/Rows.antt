@@ -1,11 +1,10 @@
 -- The words of the first ARGs, one parameter after another.
-use Rattle.std.specs.Prelude.{◌≡◌, ℕ, ◌+◌, ◌*◌, ◌<◌, List, length, map, IfSome, Option, Some, slice_index_or}
+use Rattle.std.specs.Prelude.{◌≡◌, ℕ, ◌+◌, ◌*◌, ◌<◌, List, length, IfSome, Option, Some, slice_index_or}
 use Rattle.std.specs.List.{AllByRecursion}
 use Rattle.vk_types.specs.declared.types.Word.{Word}
 use Rattle.vk_kinds.specs.declared.heads.CType.{CType}
 use Rattle.vk_meaning.specs.Types.{type_at}
 use Rattle.vk_meaning.specs.World.{Array}
-use Rattle.vk_arguments.specs.Arguments.{IsLeastPair}
 use Rattle.vk_arguments.specs.Texts.{IsFaultOfValues, Meaning, value_of_lane, values_at}
 use Rattle.vk_arguments.specs.Typed.{IsValue}
 

@@ -1,4 +1,4 @@
-use Rattle.std.proofs.Common.{◌≡◌, ◌∙◌, ℕ, ℤ, ap, sym, rules}
+use Rattle.std.proofs.Common.{◌∙◌, ℕ, ℤ, ap, sym, rules}
 use Rattle.std.proofs.lemmas.Int.{to_z-of_z}
 use mir.Syntax.{w32, w128}
 use Rattle.vk_kinds.specs.declared.kinds.Step.TheVariants.{By}

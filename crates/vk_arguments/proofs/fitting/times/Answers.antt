@@ -1,4 +1,4 @@
-use Rattle.std.proofs.Common.{◌≡◌, ℤ, pos, neg_ℤ, ◌^◌, ◌*ℤ◌, ◌-ℤ◌, ◌≤ℤ◌, subst, sym, rules}
+use Rattle.std.proofs.Common.{◌≡◌, pos, neg_ℤ, ◌^◌, ◌*ℤ◌, ◌-ℤ◌, ◌≤ℤ◌, subst, sym, rules}
 use mir.Val.{of_z, to_z}
 use mir.Syntax.{w128}
 use Rattle.vk_arguments.proofs.Numbers.{times_within}

@@ -1,10 +1,10 @@
 -- One more lane, and the first lane with no value.
-use Rattle.std.proofs.Common.{arith, ◌≡◌, ◌<◌, ℕ, Some, ◌∙◌, sym, ap, length, subst, List, ◌∷◌, [], ◌+◌}
+use Rattle.std.proofs.Common.{◌≡◌, Some, ◌∙◌, sym, ap, length, subst, List, ◌∷◌, [], ◌+◌}
 use Rattle.std.proofs.Math.ListN.{length-append}
 use Rattle.vk_types.specs.declared.types.Word.{Word}
 use Rattle.vk_arguments.specs.Texts.{value_of_lane}
 use Rattle.vk_arguments.specs.Inner.Rows.{word_at}
-use Rattle.vk_arguments.proofs.Appended.{missing_first, whole_row, words_more}
+use Rattle.vk_arguments.proofs.Appended.{words_more}
 use Rattle.vk_arguments.proofs.rows.row_of.Goals as goal
 
 pub loop-lane-preserved : goal.loop-lane-preserved

@@ -1,7 +1,6 @@
 -- One more value, and the last one.
-use Rattle.std.proofs.Common.{arith, subst, sym}
+use Rattle.std.proofs.Common.{arith}
 use Rattle.std.proofs.lemmas.Str.Pattern.{split_parts}
-use Rattle.vk_arguments.specs.Inner.Rows.{AreValues}
 use Rattle.vk_arguments.proofs.Parts.{text_after, values_cut, values_more, values_one}
 use Rattle.vk_arguments.proofs.rows.values_of_text.Goals as goal
 
