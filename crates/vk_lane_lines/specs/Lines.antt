@@ -1,5 +1,5 @@
 -- What a call on lanes prints: one line for each lane.
-use Rattle.std.specs.Prelude.{◌≡◌, ⊤, ℕ, ◌<◌, Bool, true, false, List, ◌++◌, codes, get_or, map, Option, Some, None}
+use Rattle.std.specs.Prelude.{⊤, ℕ, ◌<◌, Bool, true, false, List, ◌++◌, codes, get_or, map, Option, Some, None}
 use Rattle.std.specs.Fmt.{decimal, signed_decimal}
 use Rattle.std.specs.List.{range_with_len}
 use Rattle.vk_types.specs.declared.types.Ty.{Ty}
