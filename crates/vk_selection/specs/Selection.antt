@@ -1,12 +1,13 @@
--- What a NAME selects in a unit that is called with a letter: the first variant of that text which the image for the letter has, else
--- the scalar code of the function of that text that has directives.
-use Rattle.std.specs.Prelude.{ℕ, ◌+◌, Bool, false, ◌&&◌, List, [], ◌∷◌, Option, Some, None, cond, is_some, slice_get}
+-- What a NAME selects in a unit that is called with a letter: a variant with that name which the image for the letter has, else the
+-- scalar code of the function of that text that has directives.
+use Rattle.std.specs.Prelude.{◌≡◌, ◌&&◌, ℕ, Bool, true, false, List, Contains, Option, Some, is_some, slice_get}
 use Rattle.std.specs.List.{list_any}
-use Rattle.std.specs.Option.{option_map, option_or}
 use Rattle.std.specs.Str.{bytes_eq}
 use Rattle.vk_kinds.specs.declared.kinds.Isa.{Isa}
-use Rattle.vk_kinds.specs.Lengths.{lanes_at}
+use Rattle.vk_kinds.specs.Lengths.{lanes_at, lengths}
 use Rattle.vk_kinds.specs.Sizes.{SignatureTree, wds}
+use Rattle.vk_names.specs.Spelling.{Spells, text_of as word_of}
+use Rattle.vk_variants.specs.Directives.{name_with}
 use Rattle.vk_ast.specs.Units.{FunctionTree, ItemTree, function, object, lost_line}
 use Rattle.vk_rules_book.specs.Scopes.{has_directives, text_of}
 use Rattle.vk_rules_book.specs.Signatures.{head_of}
@@ -14,8 +15,7 @@ use Rattle.vk_rules_book.specs.Directives.{signatures}
 use Rattle.vk_rules_book.specs.Rules.{Subject}
 use Rattle.vk_rules.specs.Functions.{functions_of}
 use Rattle.vk_selection.specs.Letters.{uses}
-use Rattle.vk_selection.specs.Variants.{first_named, variants_of}
-use Rattle.vk_selection.specs.declared.places.Variant.{Variant}
+use Rattle.vk_selection.specs.declared.selection.Variant.{Variant}
 use Rattle.vk_selection.specs.declared.selection.Selected.{Selected}
 use Rattle.vk_selection.specs.declared.selection.Selected.TheVariants.{Vector, Scalar}
 
@@ -33,32 +33,35 @@ is_defined texts items name = list_any (is_definition texts name) items
 
 -- ---- variants
 
--- how many lanes a variant of a directive has in the image for a letter and vectors of so many bits; none where it is not there
-abbrev pub lanes_with : Subject → (image : Isa) → (vl : ℕ) → FunctionTree → Variant → Option SignatureTree → Option ℕ
-lanes_with unit image vl g v None = None
-lanes_with unit image vl g v (Some s) =
-    cond (uses image v.front.isa && is_defined unit.texts unit.items (text_of unit.texts g.name)) (lanes_at v.front.isa v.front.len (wds (head_of g) s) vl) None
+-- a directive of a function that the unit defines gives this variant, whose name is the text
+pub record IsNamed (unit : Subject) (text : List ℕ) (v : Variant) : Type 0 where
+  pub tree : FunctionTree
+  pub signature : SignatureTree
+  pub function_is : slice_get (functions_of unit) v.function ≡ Some tree
+  pub directive_is : slice_get (signatures tree) v.directive ≡ Some signature
+  pub given : Contains (lengths unit.target (head_of tree) signature) v.front
+  pub spelled : Spells (name_with (text_of unit.texts tree.name) signature.params v.front) text
+  pub whole : word_of text ≡ text
+  pub defined : is_defined unit.texts unit.items (text_of unit.texts tree.name) ≡ true
 
-abbrev pub lanes_from : Subject → (image : Isa) → (vl : ℕ) → Variant → Option FunctionTree → Option ℕ
-lanes_from unit image vl v None = None
-lanes_from unit image vl v (Some g) = lanes_with unit image vl g v (slice_get (signatures g) v.directive)
-
-abbrev pub lanes_in : Subject → (image : Isa) → (vl : ℕ) → Variant → Option ℕ
-lanes_in unit image vl v = lanes_from unit image vl v (slice_get (functions_of unit) v.function)
-
-abbrev pub if_there : Subject → (image : Isa) → (vl : ℕ) → Option Variant → Option Selected
-if_there unit image vl None = None
-if_there unit image vl (Some v) = option_map (λ lanes. Vector v lanes) (lanes_in unit image vl v)
+-- the image for a letter, and for vectors of so many bits, has it with so many lanes
+pub record IsVector (unit : Subject) (image : Isa) (vl : ℕ) (text : List ℕ) (v : Variant) (lanes : ℕ) : Type 0 where
+  pub named : IsNamed unit text v
+  pub used : uses image v.front.isa ≡ true
+  pub lanes_are : lanes_at v.front.isa v.front.len (wds (head_of named.tree) named.signature) vl ≡ Some lanes
 
 -- ---- scalar code
 
--- the function with this name, of those from a number on, where it has directives and is defined
-abbrev pub scalar_from : Subject → (name : List ℕ) → (function : ℕ) → List FunctionTree → Option Selected
-scalar_from unit name f [] = None
-scalar_from unit name f (g ∷ gs) =
-    cond (bytes_eq (text_of unit.texts g.name) name) (cond (has_directives g.directives && is_defined unit.texts unit.items name) (Some (Scalar f)) None) (scalar_from unit name (f + 1) gs)
+-- the function has directives and the text as its name, and the unit defines it
+pub record IsScalar (unit : Subject) (text : List ℕ) (number : ℕ) : Type 0 where
+  pub tree : FunctionTree
+  pub function_is : slice_get (functions_of unit) number ≡ Some tree
+  pub name : bytes_eq (text_of unit.texts tree.name) text ≡ true
+  pub simd : has_directives tree.directives ≡ true
+  pub defined : is_defined unit.texts unit.items text ≡ true
 
 -- ---- both
 
-abbrev pub selected_in : Subject → (image : Isa) → (vl : ℕ) → (name : List ℕ) → Option Selected
-selected_in unit image vl name = option_or (if_there unit image vl (first_named name (variants_of unit))) (scalar_from unit name 0 (functions_of unit))
+abbrev pub IsSelected : Subject → (image : Isa) → (vl : ℕ) → (text : List ℕ) → Selected → Type 0
+IsSelected unit image vl text (Vector v lanes) = IsVector unit image vl text v lanes
+IsSelected unit image vl text (Scalar number) = IsScalar unit text number × ((v : Variant) (lanes : ℕ) → IsVector unit image vl text v lanes → ⊥)

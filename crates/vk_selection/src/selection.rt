@@ -1,23 +1,33 @@
 // What a name selects in a unit.
 
-ghost use Rattle.std.specs.Prelude.{◌≡◌, ℕ, ◌≤◌, ◌<◌, IfOk, IfSome, IsTrue, Some, length, slice_get};
+ghost use Rattle.std.specs.Prelude.{◌≡◌, ◌<◌, IfSome, IsNone, IsTrue, length, slice_get, Some};
 ghost use Rattle.vk_kinds.specs.declared.kinds.Isa.TheVariants.{S};
 ghost use Rattle.vk_kinds.specs.declared.kinds.Len.TheVariants.{Scalable};
 ghost use Rattle.vk_kinds.specs.Lengths.{is_vector_length};
-ghost use Rattle.vk_ast.specs.Units.{item_of, items_of};
-ghost use Rattle.vk_rules_book.specs.Scopes.{text_of};
-ghost use Rattle.vk_rules.specs.Functions.{directives_at, functions_of};
-ghost use Rattle.vk_rules.specs.UnitNames.{HaveIdentifiers};
+ghost use Rattle.vk_ast.specs.Units.{FunctionTree};
+ghost use Rattle.vk_rules.specs.Functions.{functions_of};
 ghost use Rattle.vk_rules.specs.Verdicts.{judged};
-ghost use Rattle.vk_selection.specs.Selection.{is_defined, is_definition, lanes_in, scalar_from, selected_in};
+ghost use Rattle.vk_selection.specs.Inner.{IsAt, IsFound, IsScalarOf, IsVectorOf};
+ghost use Rattle.vk_selection.specs.Selection.{IsSelected};
+ghost use Rattle.vk_selection.specs.declared.selection.Selected.{Selected as SelectedOf};
 
+use crate::definitions::{is_defined, is_same};
 use crate::letters::uses;
-use crate::places::{Variant, is_same, place_of, variant_at};
-use std::alloc::Global;
-use vk_ast::{Item, NameId, Unit};
-use vk_kinds::{Isa, lanes_at, wds};
-use vk_memory::Memory;
-use vk_rules::{Checked, names};
+use crate::variants::lanes_with;
+use vk_kinds::{Isa, Length, Param};
+use vk_names::read_name;
+use vk_rules::Checked;
+
+/// A variant that a directive of a unit gives.
+#[derive(Clone, Copy, PartialEq, Eq, Debug)]
+pub struct Variant {
+    /// The number of its function, from 0.
+    pub function: usize,
+    /// The number of the directive among those of the function, from 0.
+    pub directive: usize,
+    /// Its letter, whether it takes a mask, and its length.
+    pub front: Length,
+}
 
 /// What a name selects.
 #[derive(Clone, Copy, PartialEq, Eq, Debug)]
@@ -28,93 +38,104 @@ pub enum Selected {
     Scalar { function: usize },
 }
 
-/// What a name selects in a unit that is called with a letter and, where that is `s`, vectors of so many bits: the first variant of
-/// that text which the image for the letter has (one of the letter or of those before it, of a function that the unit defines, with a
-/// number of lanes), else the scalar code of the function of that text, where the unit defines it with directives.
-pub fn selected_in(
-    alloc: Global,
-    unit: &Checked,
-    isa: Isa,
-    vl: u32,
-    name: &[u8],
-) -> Result<Option<Selected>, Memory>
-    requires identifiers { HaveIdentifiers (judged unit.now) }
+/// What a name selects in a unit that is called with a letter and, where that is `s`, with vectors of `vl` bits: the variant of that
+/// name that the image for the letter has (with the letter or one before it, of a function that the unit defines, with a number of
+/// lanes), else the scalar code of the function of that name, where the unit defines it with directives.
+pub fn selected_in(unit: &Checked, isa: Isa, vl: u32, name: &[u8]) -> Option<Selected>
     requires width { isa ≡ S → IsTrue (is_vector_length vl) }
-    ensures { IfOk result (λ selected. selected ≡ selected_in (judged unit.now) isa vl name.now) }
+    ensures found { IfSome result (IsSelected (judged unit.now) isa vl name.now) }
+    ensures none { IsNone result → (selected : SelectedOf) → IsSelected (judged unit.now) isa vl name.now selected → ⊥ }
 {
-    let names = names(alloc, unit)?;
-    if let Some(place) = place_of(&names, name) {
-        let variant = variant_at(unit, place);
-        if let Some(lanes) = lanes_in(unit, isa, vl, variant) {
-            return Ok(Some(Selected::Vector { variant, lanes }));
-        }
+    match vector_in(unit, isa, vl, name) {
+        Some((variant, lanes)) => Some(Selected::Vector { variant, lanes }),
+        None => scalar_in(unit, name),
     }
-    Ok(scalar_of(unit, name))
 }
 
-// How many lanes a variant has in the image for a letter, none where it is not there.
-fn lanes_in(unit: &Checked, isa: Isa, vl: u32, variant: Variant) -> Option<u16>
-    requires function { variant.function < length (functions_of (judged unit.now)) }
-    requires directive { variant.directive < directives_at (judged unit.now) variant.function }
+// The variant that a name selects, with its lanes.
+fn vector_in(unit: &Checked, isa: Isa, vl: u32, name: &[u8]) -> Option<(Variant, u16)>
     requires width { isa ≡ S → IsTrue (is_vector_length vl) }
-    requires scalable { variant.front.len ≡ Scalable → variant.front.isa ≡ S }
-    ensures { result ≡ lanes_in (judged unit.now) isa vl variant }
+    ensures { IsVectorOf (judged unit.now) isa vl name.now result }
 {
-    if !uses(isa, variant.front.isa) || !is_defined(unit.unit(), unit.name(variant.function)) {
+    let Ok(read) = read_name(name) else {
+        return None;
+    };
+    if (read.used as usize) < name.len() || !uses(isa, read.head.isa) {
         return None;
     }
-    let head = unit.head(variant.function);
-    let signature = unit.signature(variant.function, variant.directive);
-    lanes_at(variant.front.isa, variant.front.len, wds(head, signature), vl)
+    let front = Length {
+        isa: read.head.isa,
+        masked: read.head.masked,
+        len: read.head.len,
+    };
+    let (_, scalar) = name.split_at(read.scalar_at as usize);
+    variant_of(unit, vl, scalar, read.head.params.as_slice(), front)
 }
 
-// The scalar code of the function with this name, where it has directives and is defined.
-fn scalar_of(unit: &Checked, name: &[u8]) -> Option<Selected>
-    ensures { result ≡ scalar_from (judged unit.now) name.now 0 (functions_of (judged unit.now)) }
+// The variant whose name has these parts, with its lanes.
+fn variant_of(
+    unit: &Checked,
+    vl: u32,
+    scalar: &[u8],
+    params: &[Param],
+    front: Length,
+) -> Option<(Variant, u16)>
+    requires scalable { front.len ≡ Scalable → front.isa ≡ S }
+    requires width { front.isa ≡ S → IsTrue (is_vector_length vl) }
+    ensures { IsFound (judged unit.now) scalar.now params.now front vl result }
 {
+    if !is_defined(unit.unit(), scalar) {
+        return None;
+    }
     for function in 0..unit.functions() {
-        if is_same(unit.name(function), name) {
-            if unit.directives(function) > 0 && is_defined(unit.unit(), name) {
-                return Some(Selected::Scalar { function });
-            }
-            return None;
+        if let Some((directive, lanes)) = directive_of(unit, function, vl, scalar, params, front) {
+            let variant = Variant {
+                function,
+                directive,
+                front,
+            };
+            return Some((variant, lanes));
         }
     }
     None
 }
 
-// Whether a unit defines a function with this name.
-fn is_defined(unit: &Unit, name: &[u8]) -> bool
-    ensures { result ≡ is_defined unit.now.names (items_of unit.now) name.now }
+// The directive of a function with this name that gives the variant, and its lanes.
+fn directive_of(
+    unit: &Checked,
+    function: usize,
+    vl: u32,
+    scalar: &[u8],
+    params: &[Param],
+    front: Length,
+) -> Option<(usize, u16)>
+    requires function { function < length (functions_of (judged unit.now)) }
+    requires scalable { front.len ≡ Scalable → front.isa ≡ S }
+    requires width { front.isa ≡ S → IsTrue (is_vector_length vl) }
+    ensures { (g : FunctionTree) → slice_get (functions_of (judged unit.now)) function ≡ Some g → IsAt (judged unit.now) g scalar.now params.now front vl result }
 {
-    for number in 0..unit.items.len() {
-        if is_definition(unit, &unit.items[number], name) {
-            return true;
+    if !is_same(unit.name(function), scalar) {
+        return None;
+    }
+    for directive in 0..unit.directives(function) {
+        if let Some(lanes) = lanes_with(unit, function, directive, params, front, vl) {
+            return Some((directive, lanes));
         }
     }
-    false
+    None
 }
 
-// Whether an item of the unit defines it.
-fn is_definition(unit: &Unit, item: &Item, name: &[u8]) -> bool
-    ensures { result ≡ is_definition unit.now.names name.now (item_of item.now) }
+// The scalar code of the function with this name, where it has directives and is defined.
+fn scalar_in(unit: &Checked, name: &[u8]) -> Option<Selected>
+    ensures { IsScalarOf (judged unit.now) name.now result }
 {
-    match item {
-        Item::Function(function) => {
-            function.body.is_some() && is_same(text(unit, function.name), name)
+    if !is_defined(unit.unit(), name) {
+        return None;
+    }
+    for function in 0..unit.functions() {
+        if is_same(unit.name(function), name) && unit.directives(function) > 0 {
+            return Some(Selected::Scalar { function });
         }
-        Item::Object(_) => false,
-        Item::Lost(_) => false,
     }
-}
-
-// The text of a name, empty where the unit has none.
-fn text(unit: &Unit, id: NameId) -> &[u8]
-    ensures { result.now ≡ text_of unit.now.names id }
-{
-    if (id.0 as usize) < unit.names.len() {
-        unit.names.text(id)
-    } else {
-        &[]
-    }
+    None
 }
