@@ -1,2 +1,4 @@
+mod Kinds
 mod Lists
 mod Parts
+mod Vectors

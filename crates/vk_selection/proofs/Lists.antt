@@ -1,6 +1,6 @@
 -- Lists: tests of the first items, and what is told of the item at a place.
-use Rattle.std.proofs.Common.{◌≡◌, ℕ, zero, suc, ◌+◌, ◌<◌, ◌||◌, Bool, true, false, List, [], ◌∷◌, length, map, take, get_or, Option, Some, None, slice_get, refl, ap, sym, subst, arith, ◌∙◌, IsSomeAnd}
-use Rattle.std.specs.List.{list_any}
+use Rattle.std.proofs.Common.{◌≡◌, ℕ, zero, suc, ◌+◌, ◌<◌, ◌≤◌, ◌||◌, Bool, true, false, cond, List, [], ◌∷◌, length, map, take, get_or, Option, Some, None, slice_get, refl, ap, sym, subst, arith, ◌∙◌, IsSomeAnd}
+use Rattle.std.specs.List.{list_any, take_while}
 
 -- truth values
 no_more : (b : Bool) → b ≡ false → (b || false) ≡ false
@@ -29,7 +29,9 @@ at_mapped f (x ∷ xs) (suc k) d h = at_mapped f xs k d (omega arith)
 pub any_more : {X : Type 0} (p : X → Bool) (xs : List X) (k : ℕ) (x : X) → slice_get xs k ≡ Some x → list_any p (take k xs) ≡ false → p x ≡ false → list_any p (take (k + 1) xs) ≡ false
 any_more p [] k x at before here = cc
 any_more p (y ∷ ys) zero x at before here = let same : y ≡ x = cc in subst (λ z. (p z || false) ≡ false) (sym same) (no_more (p x) here)
-any_more p (y ∷ ys) (suc k) x at before here = rest (p y) (list_any p (take k ys)) (list_any p (take (k + 1) ys)) before (λ b. any_more p ys k x at b here)
+any_more p (y ∷ ys) (suc k) x at before here =
+    let same : suc (k + 1) ≡ suc k + 1 = omega arith in
+    subst (λ n. list_any p (take n (y ∷ ys)) ≡ false) same (rest (p y) (list_any p (take k ys)) (list_any p (take (k + 1) ys)) before (λ b. any_more p ys k x at b here))
 
 -- it passes at one
 pub any_here : {X : Type 0} (p : X → Bool) (xs : List X) (k : ℕ) (x : X) → slice_get xs k ≡ Some x → p x ≡ true → list_any p xs ≡ true
@@ -46,3 +48,13 @@ there (x ∷ xs) (suc k) h = there xs k (omega arith)
 pub told : {X : Type 0} (P : X → Type 0) (o : Option X) (x : X) → IsSomeAnd o P → o ≡ Some x → P x
 told P None x h e = absurd h
 told P (Some y) x h e = let same : y ≡ x = cc in subst P same h
+
+-- a front that is as long as the list
+front_by : {X : Type 0} (p : X → Bool) (b : Bool) (x : X) (xs : List X) → (length xs ≤ length (take_while p xs) → take_while p xs ≡ xs) → length (x ∷ xs) ≤ length (cond b (x ∷ take_while p xs) []) →
+    cond b (x ∷ take_while p xs) [] ≡ x ∷ xs
+front_by p true x xs next h = ap (λ ys. x ∷ ys) (next (omega (arith, h)))
+front_by p false x xs next h = absurd (omega (arith, h))
+
+pub whole_front : {X : Type 0} (p : X → Bool) (xs : List X) → length xs ≤ length (take_while p xs) → take_while p xs ≡ xs
+whole_front p [] h = refl
+whole_front p (x ∷ xs) h = front_by p (p x) x xs (whole_front p xs) h

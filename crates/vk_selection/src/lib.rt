@@ -3,6 +3,7 @@
 
 pub mod definitions;
 pub mod letters;
+pub mod params;
 pub mod selection;
 pub mod variants;
 

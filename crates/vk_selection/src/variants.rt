@@ -1,19 +1,19 @@
 // The variants of a unit with a name that was read.
 
-ghost use Rattle.std.specs.Prelude.{◌≡◌, ◌↔◌, ℕ, ◌<◌, Contains, IfSome, IsNone, IsTrue, Some, length, slice_get};
+ghost use Rattle.std.specs.Prelude.{◌≡◌, ◌<◌, Contains, IsTrue, Some, length, slice_get};
 ghost use Rattle.std.specs.Bool.{Decides};
 ghost use Rattle.vk_kinds.specs.declared.kinds.Isa.TheVariants.{S};
 ghost use Rattle.vk_kinds.specs.declared.kinds.Len.TheVariants.{Scalable};
-ghost use Rattle.vk_kinds.specs.Lengths.{is_vector_length, lanes_at, lengths};
-ghost use Rattle.vk_kinds.specs.Sizes.{SignatureTree, wds};
+ghost use Rattle.vk_kinds.specs.Lengths.{is_vector_length};
+ghost use Rattle.vk_kinds.specs.Sizes.{SignatureTree};
 ghost use Rattle.vk_ast.specs.Units.{FunctionTree};
 ghost use Rattle.vk_rules_book.specs.Directives.{signatures};
-ghost use Rattle.vk_rules_book.specs.Signatures.{head_of};
 ghost use Rattle.vk_rules.specs.Functions.{directives_at, functions_of};
 ghost use Rattle.vk_rules.specs.Verdicts.{judged};
 ghost use Rattle.vk_selection.specs.Inner.{HasLanes};
 
-use vk_kinds::{Isa, Length, Param, lanes_at, lengths, wds};
+use crate::params::are_same;
+use vk_kinds::{Length, Param, lanes_at, lengths, wds};
 use vk_rules::Checked;
 
 /// How many lanes the variant of a directive has whose name has these parameters and what stands before them; none where the
@@ -43,13 +43,6 @@ pub fn lanes_with(
         return None;
     }
     lanes_at(front.isa, front.len, wds(head, signature), vl)
-}
-
-// Whether parameters are the same.
-fn are_same(left: &[Param], right: &[Param]) -> bool
-    ensures { IsTrue result ↔ (left.now ≡ right.now) }
-{
-    left == right
 }
 
 // Whether a variant is one of some.
