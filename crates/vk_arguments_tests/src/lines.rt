@@ -37,7 +37,12 @@ static ROWS: [Row; 7] = [
     (
         None,
         "1011",
-        &[(0, None), (0, None), (0, Some(Stop::Bounds)), (0, Some(Stop::Turns))],
+        &[
+            (0, None),
+            (0, None),
+            (0, Some(Stop::Bounds)),
+            (0, Some(Stop::Turns)),
+        ],
         "lane 0: done\nlane 1: off\nlane 2: stop bounds\nlane 3: stop turns\n",
     ),
     (

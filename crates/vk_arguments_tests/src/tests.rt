@@ -10,13 +10,21 @@ use vk_kinds::{CType, Kind, Param};
 use vk_types::{Ty, wrap};
 
 pub const BYTE: CType = CType::Int(Ty::I8);
+
 pub const UBYTE: CType = CType::Int(Ty::U8);
+
 pub const SHORT: CType = CType::Int(Ty::I16);
+
 pub const USHORT: CType = CType::Int(Ty::U16);
+
 pub const INT: CType = CType::Int(Ty::I32);
+
 pub const UINT: CType = CType::Int(Ty::U32);
+
 pub const LONG: CType = CType::Int(Ty::I64);
+
 pub const ULONG: CType = CType::Int(Ty::U64);
+
 pub const POINTER: CType = CType::Ptr {
     to: Ty::I32,
     written: true,
@@ -132,7 +140,10 @@ fn params_of(alloc: Global, kinds: &[Kind]) -> Result<Vec<Param>, AllocError> {
 fn reads_values(rt: HostRuntime) -> Result<(), Fail> {
     for (call, texts, want) in &VALUES {
         let taken = called(rt.alloc(), call, None, texts);
-        assert!(rt; is_wanted(taken, call.types, call.lanes, want), "at {texts:?}");
+        assert!(rt;
+            is_wanted(taken, call.types, call.lanes, want),
+            "at {texts:?}"
+        );
     }
     Ok(())
 }
@@ -141,7 +152,10 @@ fn reads_values(rt: HostRuntime) -> Result<(), Fail> {
 fn counts_arguments(rt: HostRuntime) -> Result<(), Fail> {
     for (call, texts, want) in &COUNTS {
         let taken = called(rt.alloc(), call, None, texts);
-        assert!(rt; is_wanted(taken, call.types, call.lanes, want), "at {texts:?}");
+        assert!(rt;
+            is_wanted(taken, call.types, call.lanes, want),
+            "at {texts:?}"
+        );
     }
     Ok(())
 }
@@ -166,7 +180,10 @@ fn knows_ranges(rt: HostRuntime) -> Result<(), Fail> {
 fn reads_masks(rt: HostRuntime) -> Result<(), Fail> {
     for (call, bits, texts, want) in &MASKS {
         let taken = called(rt.alloc(), call, Some(bits), texts);
-        assert!(rt; is_wanted(taken, call.types, call.lanes, want), "at {bits} {texts:?}");
+        assert!(rt;
+            is_wanted(taken, call.types, call.lanes, want),
+            "at {bits} {texts:?}"
+        );
     }
     Ok(())
 }
@@ -175,7 +192,10 @@ fn reads_masks(rt: HostRuntime) -> Result<(), Fail> {
 fn compares_uniform_arguments(rt: HostRuntime) -> Result<(), Fail> {
     for (call, bits, texts, want) in &UNIFORMS {
         let taken = called(rt.alloc(), call, Some(bits), texts);
-        assert!(rt; is_wanted(taken, call.types, call.lanes, want), "at {bits} {texts:?}");
+        assert!(rt;
+            is_wanted(taken, call.types, call.lanes, want),
+            "at {bits} {texts:?}"
+        );
     }
     Ok(())
 }
@@ -184,7 +204,10 @@ fn compares_uniform_arguments(rt: HostRuntime) -> Result<(), Fail> {
 fn compares_linear_arguments(rt: HostRuntime) -> Result<(), Fail> {
     for (call, bits, texts, want) in &LINEARS {
         let taken = called(rt.alloc(), call, Some(bits), texts);
-        assert!(rt; is_wanted(taken, call.types, call.lanes, want), "at {bits} {texts:?}");
+        assert!(rt;
+            is_wanted(taken, call.types, call.lanes, want),
+            "at {bits} {texts:?}"
+        );
     }
     Ok(())
 }
@@ -193,7 +216,10 @@ fn compares_linear_arguments(rt: HostRuntime) -> Result<(), Fail> {
 fn takes_steps_from_arguments(rt: HostRuntime) -> Result<(), Fail> {
     for (call, bits, texts, want) in &ARGUMENT_STEPS {
         let taken = called(rt.alloc(), call, Some(bits), texts);
-        assert!(rt; is_wanted(taken, call.types, call.lanes, want), "at {bits} {texts:?}");
+        assert!(rt;
+            is_wanted(taken, call.types, call.lanes, want),
+            "at {bits} {texts:?}"
+        );
     }
     Ok(())
 }

@@ -201,7 +201,10 @@ pub static LANES: [(&str, &str); 35] = [
     ("lanes --isa d --mask=2x u n 1", "D 2x 1000000 u n 1"),
     ("lanes --mask 1 --turns 7 --isa b u f 6", "B 1 7 u f 6"),
     ("lanes --isa b --turns 1 u n", "B all 1 u n"),
-    ("lanes --isa b --turns 1000000000 u n", "B all 1000000000 u n"),
+    (
+        "lanes --isa b --turns 1000000000 u n",
+        "B all 1000000000 u n",
+    ),
     ("lanes --isa b -- u n -5", "B all 1000000 u n -5"),
     ("lanes --isa b u n -- -5 -6,7", "B all 1000000 u n -5 -6,7"),
     ("lanes --isa b u n 1 --mask 10", "B 10 1000000 u n 1"),

@@ -7,14 +7,7 @@ use vk_words::MangleRequest;
 use vk_words::mangle::mangle_of;
 use vk_words::matching::NoRequest;
 use vk_words_units::{
-    CloneRequest,
-    GenRequest,
-    LanesRequest,
-    UnitsRequest,
-    clone_of,
-    gen_of,
-    lanes_of,
-    units_of,
+    CloneRequest, GenRequest, LanesRequest, UnitsRequest, clone_of, gen_of, lanes_of, units_of,
 };
 
 // The words of a text.

@@ -1,7 +1,6 @@
 use Rattle.std.proofs.Common.{◌≡◌, refl, inl, inr, Option}
 use Rattle.std.specs.Prelude.{codes}
 use Rattle.clap.specs.Words.{Text}
-use Rattle.vk_kinds.specs.declared.kinds.Isa.TheVariants.{S}
 use Rattle.vk_words.specs.Asked.{IsIsa, IsTurns}
 use Rattle.vk_words.proofs.Known.{as_table, found_at, held_at, holds_at, is_there, listed_at}
 use Rattle.vk_words_units.specs.Lanes.{lanes_table}
