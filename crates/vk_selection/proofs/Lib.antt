@@ -1,4 +1,4 @@
-mod Kinds
 mod Lists
 mod Parts
+mod SameKinds
 mod Vectors

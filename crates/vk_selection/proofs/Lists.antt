@@ -1,6 +1,6 @@
 -- Lists: tests of the first items, and what is told of the item at a place.
-use Rattle.std.proofs.Common.{◌≡◌, ℕ, zero, suc, ◌+◌, ◌<◌, ◌≤◌, ◌||◌, Bool, true, false, cond, List, [], ◌∷◌, length, map, take, get_or, Option, Some, None, slice_get, refl, ap, sym, subst, arith, ◌∙◌, IsSomeAnd}
-use Rattle.std.specs.List.{list_any, take_while}
+use Rattle.std.proofs.Common.{◌≡◌, ℕ, zero, suc, ◌+◌, ◌<◌, ◌≤◌, ◌||◌, Bool, true, false, List, [], ◌∷◌, length, map, take, get_or, Option, Some, None, slice_get, refl, ap, sym, subst, arith, ◌∙◌, IsSomeAnd}
+use Rattle.std.specs.List.{list_any, prefix_len, take_while}
 
 -- truth values
 no_more : (b : Bool) → b ≡ false → (b || false) ≡ false
@@ -50,11 +50,11 @@ told P None x h e = absurd h
 told P (Some y) x h e = let same : y ≡ x = cc in subst P same h
 
 -- a front that is as long as the list
-front_by : {X : Type 0} (p : X → Bool) (b : Bool) (x : X) (xs : List X) → (length xs ≤ length (take_while p xs) → take_while p xs ≡ xs) → length (x ∷ xs) ≤ length (cond b (x ∷ take_while p xs) []) →
-    cond b (x ∷ take_while p xs) [] ≡ x ∷ xs
-front_by p true x xs next h = ap (λ ys. x ∷ ys) (next (omega (arith, h)))
-front_by p false x xs next h = absurd (omega (arith, h))
+whole_take : {X : Type 0} (n : ℕ) (xs : List X) → length xs ≤ length (take n xs) → take n xs ≡ xs
+whole_take zero [] h = refl
+whole_take zero (x ∷ xs) h = absurd (omega (arith, h))
+whole_take (suc n) [] h = refl
+whole_take (suc n) (x ∷ xs) h = ap (λ ys. x ∷ ys) (whole_take n xs (omega (arith, h)))
 
 pub whole_front : {X : Type 0} (p : X → Bool) (xs : List X) → length xs ≤ length (take_while p xs) → take_while p xs ≡ xs
-whole_front p [] h = refl
-whole_front p (x ∷ xs) h = front_by p (p x) x xs (whole_front p xs) h
+whole_front p xs h = whole_take (prefix_len p xs) xs h

@@ -20,7 +20,7 @@ use Rattle.vk_selection.specs.declared.selection.Variant.{Variant}
 
 -- a number below one more is below, or it is that one
 below_or : (P : ℕ → Type 0) (k n : ℕ) → n < k + 1 → (n < k → P n) → P k → P n
-below_or P k n h before here = elim (cases_lt n k) [ | inl lt ↦ before lt | inr ge ↦ let same : k ≡ n = omega arith in subst P same here ]
+below_or P k n h before here = elim (cases_lt n k) [ inl lt ↦ before lt | inr ge ↦ let same : k ≡ n = omega arith in subst P same here ]
 
 -- ---- directives
 

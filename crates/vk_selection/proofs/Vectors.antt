@@ -73,15 +73,15 @@ from_vector unit image vl text scalar params front v lanes every is =
 
 pub vector_found : (unit : Subject) (image : Isa) (vl : ℕ) (text scalar : List ℕ) (params : List Param) (front : Length) (r : Option (Variant × ℕ)) → Spells (parts scalar params front) text →
     word_of text ≡ text → uses image front.isa ≡ true → ((n : Name) → Spells n text → parts scalar params front ≡ n) → IsFound unit scalar params front vl r → IsVectorOf unit image vl text r
-vector_found unit image vl text scalar params front None spells whole used every found v lanes is = found v lanes (from_vector unit image vl text scalar params front v lanes every is)
+vector_found unit image vl text scalar params front None spells whole used every found = λ v lanes is. found v lanes (from_vector unit image vl text scalar params front v lanes every is)
 vector_found unit image vl text scalar params front (Some (v, lanes)) spells whole used every found = to_vector unit image vl text scalar params front v lanes spells whole used found
 
 -- where neither is selected, nothing is
 pub none_selected : (unit : Subject) (image : Isa) (vl : ℕ) (text : List ℕ) (r : Option Selected) → IsNone r → IsScalarOf unit text r → ((v : Variant) (lanes : ℕ) → IsVector unit image vl text v lanes → ⊥) →
     (selected : Selected) → IsSelected unit image vl text selected → ⊥
-none_selected unit image vl text (Some x) none scalar no selected is = cc
-none_selected unit image vl text None none scalar no (Vector v lanes) is = no v lanes is
-none_selected unit image vl text None none scalar no (Scalar n) is = scalar n is.0
+none_selected unit image vl text (Some x) none scalar never selected is = cc
+none_selected unit image vl text None none scalar never (Vector v lanes) is = never v lanes is
+none_selected unit image vl text None none scalar never (Scalar n) is = scalar n is.0
 
 -- a scalable length is of SVE
 scalable_len : (isa : Isa) (masked : Bool) (len : Len) → IsLen isa masked len → len ≡ Scalable → isa ≡ S

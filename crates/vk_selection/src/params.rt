@@ -1,6 +1,6 @@
 // Whether parameters are the same.
 
-ghost use Rattle.std.specs.Prelude.{◌≡◌, length};
+ghost use Rattle.std.specs.Prelude.{◌≡◌};
 ghost use Rattle.std.specs.Bool.{Decides};
 ghost use Rattle.vk_names.specs.Spelling.{kind_letter, step_of};
 
@@ -9,7 +9,6 @@ use vk_kinds::{Kind, Param, Step};
 /// Whether parameters are the same.
 pub fn are_same(left: &[Param], right: &[Param]) -> bool
     ensures { Decides result (left.now ≡ right.now) }
-    decreases { length left.now }
 {
     let [a, left @ ..] = left else {
         return right.is_empty();
@@ -38,6 +37,7 @@ fn same_align(a: Option<u32>, b: Option<u32>) -> bool
     }
 }
 
+#[tactic(auto, using(crate::proofs::SameKinds::kind_same))]
 fn same_kind(a: Kind, b: Kind) -> bool
     ensures { Decides result (a ≡ b) }
 {

@@ -5,7 +5,7 @@ use Rattle.vk_rules_book.specs.Directives.{signatures}
 use Rattle.vk_rules_book.specs.Signatures.{head_of}
 use Rattle.vk_rules.specs.Functions.{functions_of}
 use Rattle.vk_rules.specs.Verdicts.{judged}
-use Rattle.vk_selection.proofs.Kinds.{same_count}
+use Rattle.vk_selection.proofs.SameKinds.{same_count}
 use Rattle.vk_selection.proofs.Lists.{there, told}
 use Rattle.vk_selection.proofs.variants.lanes_with.Goals as goal
 
