@@ -1,3 +1,5 @@
+mod Counts
+mod Fits
 mod Lists
 mod Parts
 mod SameKinds

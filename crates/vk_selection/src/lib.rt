@@ -2,6 +2,7 @@
 #![tactic(auto)]
 
 pub mod definitions;
+pub mod laws;
 pub mod letters;
 pub mod params;
 pub mod selection;
