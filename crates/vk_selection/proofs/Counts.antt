@@ -1,6 +1,6 @@
 -- How many lanes a variant has at most.
-use Rattle.std.proofs.Common.{◌≡◌, ℕ, zero, suc, ◌+◌, ◌*◌, ◌/◌, ◌<◌, ◌≤◌, ◌&&◌, eqb, Bool, true, false, cond, List, [], ◌∷◌, ◌++◌, map, length, get_or, Contains, Option, Some, None, slice_get, nat_le, refl, sym, subst, arith, IsTrue, ℤ, pos, negsuc}
-use Rattle.std.specs.Prelude.{unsigned_abs, int_le}
+use Rattle.std.proofs.Common.{◌≡◌, ℕ, zero, suc, ◌/◌, ◌<◌, ◌≤◌, ◌&&◌, eqb, Bool, true, false, cond, List, [], ◌∷◌, ◌++◌, map, length, get_or, Contains, Option, Some, None, slice_get, refl, sym, subst, arith, ℤ, pos, negsuc}
+use Rattle.std.specs.Prelude.{int_le}
 use Rattle.std.specs.List.{AllByRecursion, flat_map}
 use Rattle.std.specs.Option.{option_and_then, option_or}
 use Rattle.std.proofs.Math.Nat.{div-le_self}
@@ -31,7 +31,7 @@ part register size h = let less : register / size ≤ register = div-le_self reg
 
 by_narrowest : (b : Bool) (n : ℕ) → AllByRecursion IsShort (cond b (Fixed 2 ∷ []) (Fixed (8 / n) ∷ Fixed (16 / n) ∷ []))
 by_narrowest true n = (omega arith, tt)
-by_narrowest false n = (part 8 n (omega arith), part 16 n (omega arith), tt)
+by_narrowest false n = (part 8 n (omega arith), (part 16 n (omega arith), tt))
 
 lens_short : (isa : Isa) (h : HeadTypes) (s : SignatureTree) → AllByRecursion IsShort (lens_at isa h s)
 lens_short B h s = (part 16 (cdt h s) (omega arith), tt)

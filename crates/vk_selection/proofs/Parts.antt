@@ -1,6 +1,5 @@
 -- Functions and directives one after another.
-use Rattle.std.proofs.Common.{◌≡◌, ℕ, ◌+◌, ◌<◌, ◌≤◌, Bool, true, false, List, length, map, Option, Some, None, slice_get, refl, ap, sym, subst, arith, ◌∙◌, inl, inr}
-use Rattle.std.specs.Str.{bytes_eq}
+use Rattle.std.proofs.Common.{◌≡◌, ℕ, ◌+◌, ◌<◌, ◌≤◌, List, length, Option, Some, slice_get, ap, sym, subst, arith, ◌∙◌, inl, inr}
 use Rattle.std.proofs.lemmas.Bool.{cases_lt}
 use Rattle.std.specs.Option.{option_map_or}
 use Rattle.std.proofs.lemmas.List.{length-map}
@@ -11,11 +10,10 @@ use Rattle.vk_kinds.specs.Sizes.{SignatureTree}
 use Rattle.vk_ast.specs.Units.{FunctionTree}
 use Rattle.vk_rules_book.specs.Directives.{signatures}
 use Rattle.vk_rules_book.specs.Signatures.{signature_of}
-use Rattle.vk_rules_book.specs.Scopes.{has_directives, text_of}
 use Rattle.vk_rules_book.specs.Rules.{Subject}
 use Rattle.vk_rules.specs.Functions.{directives_at, functions_of}
-use Rattle.vk_selection.specs.Inner.{HasLanes, IsAt, IsGiven, IsPart, IsWith}
-use Rattle.vk_selection.specs.Selection.{IsScalar, is_defined}
+use Rattle.vk_selection.specs.Inner.{IsGiven, IsPart, IsWith}
+use Rattle.vk_selection.specs.Selection.{IsScalar}
 use Rattle.vk_selection.specs.declared.selection.Variant.{Variant}
 
 -- a number below one more is below, or it is that one

@@ -1,5 +1,5 @@
 -- Kinds by their letters and steps, and variants by their names.
-use Rattle.std.proofs.Common.{◌≡◌, ℕ, zero, suc, List, [], ◌∷◌, map, Option, Some, None, length, refl, ap, arith, ◌∙◌, sym, slice_get}
+use Rattle.std.proofs.Common.{◌≡◌, ℕ, zero, suc, List, [], ◌∷◌, map, Some, length, refl, ap, arith, ◌∙◌, sym, slice_get}
 use Rattle.std.proofs.lemmas.List.{length-map}
 use Rattle.vk_kinds.specs.declared.kinds.Kind.{Kind}
 use Rattle.vk_kinds.specs.declared.kinds.Kind.TheVariants.{Vector, Uniform, Linear, Ref, Val, Uval}

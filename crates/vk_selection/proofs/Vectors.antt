@@ -1,6 +1,5 @@
 -- A variant by its name.
-use Rattle.std.proofs.Common.{◌≡◌, ℕ, Bool, true, false, List, Contains, Option, Some, None, IsNone, refl, ap, sym, subst, ◌∙◌}
-use Rattle.std.specs.Str.{bytes_eq}
+use Rattle.std.proofs.Common.{◌≡◌, ℕ, Bool, true, List, Contains, Option, Some, None, IsNone, ap, sym, subst}
 use Rattle.std.proofs.lemmas.Slice.Eq.{bytes_eq-Decides}
 use Rattle.vk_kinds.specs.declared.kinds.Isa.{Isa}
 use Rattle.vk_kinds.specs.declared.kinds.Length.{Length}
@@ -17,7 +16,7 @@ use Rattle.vk_rules_book.specs.Signatures.{head_of}
 use Rattle.vk_rules_book.specs.Rules.{Subject}
 use Rattle.vk_selection.specs.Inner.{IsFound, IsPart, IsScalarOf, IsVectorOf}
 use Rattle.vk_selection.specs.Letters.{uses}
-use Rattle.vk_selection.specs.Selection.{IsScalar, IsSelected, IsVector, is_defined}
+use Rattle.vk_selection.specs.Selection.{IsSelected, IsVector, is_defined}
 use Rattle.vk_selection.specs.declared.selection.Variant.{Variant}
 use Rattle.vk_selection.specs.declared.selection.Selected.{Selected}
 use Rattle.vk_selection.specs.declared.selection.Selected.TheVariants.{Vector, Scalar}

@@ -1,6 +1,6 @@
 -- What a NAME selects in a unit that is called with a letter: a variant with that name which the image for the letter has, else the
 -- scalar code of the function of that text that has directives.
-use Rattle.std.specs.Prelude.{◌≡◌, ◌&&◌, ℕ, Bool, true, false, List, Contains, Option, Some, is_some, slice_get}
+use Rattle.std.specs.Prelude.{◌≡◌, ◌&&◌, ℕ, Bool, true, false, List, Contains, Some, is_some, slice_get}
 use Rattle.std.specs.List.{list_any}
 use Rattle.std.specs.Str.{bytes_eq}
 use Rattle.vk_kinds.specs.declared.kinds.Isa.{Isa}

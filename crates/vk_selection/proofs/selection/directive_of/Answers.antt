@@ -1,4 +1,4 @@
-use Rattle.std.proofs.Common.{◌≡◌, ◌∙◌, ◌<◌, true, Some, arith, ap, rules, slice_get, sym, length}
+use Rattle.std.proofs.Common.{◌≡◌, ◌∙◌, ◌<◌, true, arith, ap, rules, slice_get, sym, length}
 use Rattle.std.specs.Str.{bytes_eq}
 use Rattle.vk_ast.specs.Units.{FunctionTree}
 use Rattle.vk_rules_book.specs.Directives.{signatures}

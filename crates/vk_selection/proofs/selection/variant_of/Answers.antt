@@ -1,5 +1,4 @@
 use Rattle.std.proofs.Common.{◌≡◌, true, arith, refl, rules}
-use Rattle.vk_ast.specs.Units.{items_of}
 use Rattle.vk_rules.specs.Functions.{functions_of}
 use Rattle.vk_rules.specs.Verdicts.{judged}
 use Rattle.vk_selection.specs.Selection.{is_defined}
