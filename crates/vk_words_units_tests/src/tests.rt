@@ -1,4 +1,4 @@
-use crate::tables::{GEN, MANGLE_AND_CLONE, READ_AND_ALL};
+use crate::tables::{GEN, LANES, MANGLE_AND_CLONE, READ_AND_ALL};
 use std::alloc::{AllocError, Global};
 use std::test::Fail;
 use vk_io::{Memory, Words};
@@ -6,7 +6,9 @@ use vk_kinds::{Isa, Target};
 use vk_words::MangleRequest;
 use vk_words::mangle::mangle_of;
 use vk_words::matching::NoRequest;
-use vk_words_units::{CloneRequest, GenRequest, UnitsRequest, clone_of, gen_of, units_of};
+use vk_words_units::{
+    CloneRequest, GenRequest, LanesRequest, UnitsRequest, clone_of, gen_of, lanes_of, units_of,
+};
 
 // The words of a text.
 fn split(alloc: Global, text: &str) -> Result<Words, Memory> {
@@ -92,6 +94,26 @@ fn gen_told(alloc: Global, read: Result<GenRequest, NoRequest>) -> Result<String
     }
 }
 
+// The mask is `all` where none is asked.
+fn lanes_told(alloc: Global, read: Result<LanesRequest, NoRequest>) -> Result<String, AllocError> {
+    match read {
+        Ok(request) => {
+            let mask = request.mask.unwrap_or("all");
+            let (unit, name) = (request.unit, request.name);
+            let mut text = format!(in alloc;
+                "{} {mask} {} {unit} {name}",
+                letter(request.isa),
+                request.turns
+            )?;
+            for argument in &request.arguments {
+                write!(text, " {argument}")?;
+            }
+            Ok(text)
+        }
+        Err(fail) => String::from_str(alloc, label(fail)),
+    }
+}
+
 // What was read of words, as the tables have it.
 fn told(alloc: Global, words: &[String]) -> Result<String, AllocError> {
     let Some(first) = words.first() else {
@@ -101,6 +123,7 @@ fn told(alloc: Global, words: &[String]) -> Result<String, AllocError> {
         "mangle" => mangle_told(alloc, mangle_of(alloc, words)),
         "clone" => clone_told(alloc, clone_of(alloc, words)),
         "gen" => gen_told(alloc, gen_of(alloc, words)),
+        "lanes" => lanes_told(alloc, lanes_of(alloc, words)),
         name => units_told(alloc, units_of(alloc, name, words)),
     }
 }
@@ -132,5 +155,11 @@ fn words_of_read_and_all(rt: HostRuntime) -> Result<(), Fail> {
 #[test]
 fn words_of_gen(rt: HostRuntime) -> Result<(), Fail> {
     assert_eq!(rt; other(rt.alloc(), &GEN)?, "none");
+    Ok(())
+}
+
+#[test]
+fn words_of_lanes(rt: HostRuntime) -> Result<(), Fail> {
+    assert_eq!(rt; other(rt.alloc(), &LANES)?, "none");
     Ok(())
 }

@@ -1,0 +1,7 @@
+mod Appended
+mod Numbers
+mod Numerals
+mod Parts
+mod Passing
+mod Ranges
+mod Unique

@@ -1,0 +1,6 @@
+mod Counts
+mod Fits
+mod Lists
+mod Parts
+mod SameKinds
+mod Vectors
