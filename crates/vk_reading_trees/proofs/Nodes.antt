@@ -1,16 +1,29 @@
 -- What the code does of each form of expression, from what it does of the parts.
-use Rattle.std.proofs.Common.{◌≡◌, Bool, true, false, cond, List, Result, Ok, Err, refl, sym, subst, true≢false}
+use Rattle.std.proofs.Common.{◌≡◌, ℕ, Bool, true, false, cond, List, [], Result, Ok, Err, refl, sym, ap, subst, ◌∙◌, true≢false}
+use Rattle.std.specs.Result.{IsErrAnd}
 use Rattle.vk_types.specs.declared.types.Ty.{Ty}
 use Rattle.vk_types.specs.Numbers.{wrap_number}
+use Rattle.vk_types.specs.Conversions.{common_type}
 use Rattle.vk_ast.specs.declared.expressions.UnOp.{UnOp}
+use Rattle.std.specs.Global.{Vec}
+use Rattle.vk_ast.specs.declared.names.NameId.{NameId}
+use Rattle.vk_ast.specs.declared.expressions.Expr.{Expr}
+use Rattle.vk_ast.specs.declared.expressions.ExprKind.{ExprKind}
+use Rattle.vk_ast.specs.declared.expressions.ExprKind.TheVariants.{Call}
+use Rattle.vk_ast.specs.Tree.{Tree, kind_of, expr_of, exprs_of}
+use Rattle.vk_ast.proofs.Rows.{call_seen}
+use Rattle.vk_rules_book.specs.Scopes.{Scope, meaning_of}
+use Rattle.vk_rules_book.specs.declared.typings.Typing.{Typing}
+use Rattle.vk_rules_book.specs.Typings.{wanted_types, typing_of}
 use Rattle.vk_numbers.specs.Operators.{is_on, unary_number}
 use Rattle.vk_meaning.specs.World.{Array}
 use Rattle.vk_meaning.specs.Data.{Datum, number, number_in, Action, given, and_then, then_number, moved, loaded}
-use Rattle.vk_meaning.specs.Expressions.{answered, subscripted, chosen, converted}
+use Rattle.vk_meaning.specs.Expressions.{Context, Variables, answered, subscripted, chosen, converted, value_of, address_of, with_arguments}
 use Rattle.vk_reading.specs.declared.held.Held.{Held}
 use Rattle.vk_reading.specs.declared.held.Halt.{Halt}
 use Rattle.vk_reading.specs.Held.{datum_of}
-use Rattle.vk_reading_steps.specs.Runs.{Run, Does, Adds, GoesOn}
+use Rattle.vk_reading_steps.specs.Runs.{Run, Does, Adds, GoesOn, DoesArguments}
+use Rattle.vk_reading_steps.specs.Settings.{data_of}
 use Rattle.vk_reading_steps.proofs.Steps.{does_then, does_fail}
 use Rattle.vk_reading_steps.proofs.Adds.{adds_given, adds_number, adds_cond, adds_moved, adds_loaded}
 
@@ -65,3 +78,49 @@ module _ {arrays : List Array} {b : Run} where
       Does arrays b (converted s (chosen test first second)) m (Err x)
   choice_failed {first = first} {second = second} s a c d = does_fail (λ k. given (number (wrap_number s (number_in k)))) (λ k. adds_given _)
       (does_fail (λ k. cond (is_on (number_in k)) first second) (λ k. adds_cond (is_on (number_in k)) a c) d)
+
+-- ---- exits
+
+failed_is : {A : Type 0} (r : Result A Halt) (x : Halt) → IsErrAnd r (λ e. e ≡ x) → Err x ≡ r
+failed_is (Ok h) x e = absurd e
+failed_is (Err y) x e = ap Err (sym e)
+
+module _ {arrays : List Array} {b n : Run} {x : Halt} where
+  pub exit_does : {action : Action} (r : Result Held Halt) → IsErrAnd r (λ e. e ≡ x) → Does arrays b action n (Err x) → Does arrays b action n r
+  exit_does {action = action} r e d = subst (λ (q : Result Held Halt). Does arrays b action n q) (failed_is r x e) d
+
+  pub exit_passed : {action : (List Datum → Action) → Action} {given : List Datum} (r : Result (Unit {0}) Halt) → IsErrAnd r (λ e. e ≡ x) →
+      DoesArguments arrays b action n given (Err x) → DoesArguments arrays b action n given r
+  exit_passed {action = action} {given = given} r e d = subst (λ (q : Result (Unit {0}) Halt). DoesArguments arrays b action n given q) (failed_is r x e) d
+
+-- ---- the expression at a node
+
+pub typed : {t : Typing} (scope : Scope) {e f : Expr} → e ≡ f → t ≡ typing_of scope (expr_of e) → t ≡ typing_of scope (expr_of f)
+typed scope s h = h ∙ ap (λ (g : Expr). typing_of scope (expr_of g)) s
+
+pub common_is : {r s t s' t' : Ty} → s ≡ s' → t ≡ t' → r ≡ common_type s t → r ≡ common_type s' t'
+common_is {t = t} {s' = s'} e f h = h ∙ ap (λ (x : Ty). common_type x t) e ∙ ap (common_type s') f
+
+module _ {arrays : List Array} {b n : Run} (c : Context) (scope : Scope) (vs : Variables) where
+  pub value_seen : {e f : Expr} → e ≡ f → {r : Result Held Halt} → Does arrays b (value_of c scope vs (expr_of e)) n r → Does arrays b (value_of c scope vs (expr_of f)) n r
+  value_seen s {r = r} d = subst (λ (g : Expr). Does arrays b (value_of c scope vs (expr_of g)) n r) s d
+
+module _ {arrays : List Array} {b n : Run} (c : Context) (scope : Scope) (vs : Variables) (e : Expr) (k : ExprKind) (is : e.kind ≡ k) where
+  pub value_at : {r : Result Held Halt} → Does arrays b (value_of c scope vs (kind_of k e.line e.token)) n r → Does arrays b (value_of c scope vs (expr_of e)) n r
+  value_at {r = r} d = subst (λ (j : ExprKind). Does arrays b (value_of c scope vs (kind_of j e.line e.token)) n r) (sym is) d
+
+  pub address_at : {r : Result Held Halt} → Does arrays b (address_of c scope vs (kind_of k e.line e.token)) n r → Does arrays b (address_of c scope vs (expr_of e)) n r
+  address_at {r = r} d = subst (λ (j : ExprKind). Does arrays b (address_of c scope vs (kind_of j e.line e.token)) n r) (sym is) d
+
+-- ---- calls
+
+module _ {arrays : List Array} {b n : Run} (c : Context) (scope : Scope) (vs : Variables) (id : NameId) (line token : ℕ) (es : Vec Expr) where
+  -- the arguments of a call, by the list of expressions
+  pub call_at : {r : Result Held Halt} → Does arrays b (with_arguments c scope vs (wanted_types (meaning_of scope id)) (exprs_of es.items) [] (c.call id)) n r →
+      Does arrays b (value_of c scope vs (kind_of (Call id es) line token)) n r
+  call_at {r = r} d = subst (λ (t : Tree). Does arrays b (value_of c scope vs t) n r) (sym (call_seen id line token es)) d
+
+-- a call on the data of some values
+pub given_seen : {arrays : List Array} {b n : Run} (action : List Datum → Action) {hs gs : List Held} → hs ≡ gs → {r : Result Held Halt} →
+    Does arrays b (action (data_of hs)) n r → Does arrays b (action (data_of gs)) n r
+given_seen {arrays = arrays} {b = b} {n = n} action e {r = r} d = subst (λ (xs : List Held). Does arrays b (action (data_of xs)) n r) e d

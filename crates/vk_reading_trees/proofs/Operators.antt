@@ -1,5 +1,5 @@
 -- What an operator does behind its first operand.
-use Rattle.std.proofs.Common.{◌≡◌, Bool, true, false, cond, Option, Some, None, List, pos, Result, Ok, Err, refl, sym, ap, subst, ◌∙◌, true≢false}
+use Rattle.std.proofs.Common.{◌≡◌, Bool, true, false, cond, Option, Some, None, List, ℤ, pos, Result, Ok, Err, refl, sym, ap, subst, ◌∙◌, true≢false}
 use Rattle.std.proofs.lemmas.Option.{none-some, same_Some}
 use Rattle.vk_types.specs.declared.types.Ty.{Ty}
 use Rattle.vk_types.specs.Operators.{truth}
@@ -223,8 +223,22 @@ module _ {arrays : List Array} {b : Run} (op : BinOp) where
         Does arrays b left m (Ok h) → Does arrays b (operator_value op s t left right) m (Ok v)
     numbers_decided right i k e d = none_moves _ right i k (integers_decided (integer_type s) (integer_type t) right e d)
 
-    pub numbers_both : {m n : Run} {left right : Action} {h : Held} {y r : Result Held Halt} → moves_left op s ≡ false → moves_right op s t ≡ false →
-        None ≡ decided_by op (is_on (number_in (datum_of h))) → Does arrays b left m (Ok h) → Does arrays m right n y →
-        GoesOn arrays n y (λ d. answered (binary_number op (integer_type s) (integer_type t) (number_in (datum_of h)) (number_in d))) r →
+    pub numbers_both : {m n : Run} {left right : Action} {h : Held} {y r : Result Held Halt} {u v : Ty} → u ≡ integer_type s → v ≡ integer_type t →
+        moves_left op s ≡ false → moves_right op s t ≡ false → None ≡ decided_by op (is_on (number_in (datum_of h))) →
+        Does arrays b left m (Ok h) → Does arrays m right n y → GoesOn arrays n y (λ d. answered (binary_number op u v (number_in (datum_of h)) (number_in d))) r →
         Does arrays b (operator_value op s t left right) n r
-    numbers_both i k e d f g = none_moves _ _ i k (integers_both (integer_type s) (integer_type t) e d f g)
+    numbers_both {n = n} {left = left} {right = right} {h = h} {y = y} {r = r} {u = u} {v = v} su tv i k e d f g =
+        none_moves left right i k (integers_both (integer_type s) (integer_type t) e d f
+        (subst (λ (x : Ty). GoesOn arrays n y (λ d. answered (binary_number op x (integer_type t) (number_in (datum_of h)) (number_in d))) r) su
+        (subst (λ (x : Ty). GoesOn arrays n y (λ d. answered (binary_number op u x (number_in (datum_of h)) (number_in d))) r) tv g)))
+
+-- ---- tests
+
+pub left_is : (op : BinOp) {s s' : Typing} {r b : Bool} → s ≡ s' → r ≡ moves_left op s → r ≡ b → moves_left op s' ≡ b
+left_is op e h k = ap (moves_left op) (sym e) ∙ sym h ∙ k
+
+pub right_is : (op : BinOp) {s s' t t' : Typing} {r b : Bool} → s ≡ s' → t ≡ t' → r ≡ moves_right op s t → r ≡ b → moves_right op s' t' ≡ b
+right_is op {s' = s'} {t = t} e f h k = ap (moves_right op s') (sym f) ∙ ap (λ (x : Typing). moves_right op x t) (sym e) ∙ sym h ∙ k
+
+pub on_is : {z w : ℤ} {r b : Bool} → z ≡ w → r ≡ is_on z → r ≡ b → is_on w ≡ b
+on_is e h k = ap is_on (sym e) ∙ sym h ∙ k

@@ -1,11 +1,13 @@
 -- Arguments, one after another.
-use Rattle.std.proofs.Common.{◌≡◌, ℕ, zero, suc, ◌+◌, List, [], ◌∷◌, ◌++◌, drop, slice_get, Option, Some, None, Result, Ok, Err, refl, sym, ap, subst, ◌∙◌, add-one}
+use Rattle.std.proofs.Common.{◌≡◌, ℕ, zero, suc, ◌+◌, List, [], ◌∷◌, ◌++◌, drop, take, get_or, length, ◌-◌, ◌≤◌, slice_get, Option, Some, None, Result, Ok, Err, refl, sym, ap, subst, ◌∙◌, add-one, arith, take_all}
 use Rattle.std.proofs.lemmas.Option.{none-some, same_Some}
 use Rattle.vk_kinds.specs.declared.heads.CType.{CType}
 use Rattle.vk_kinds.specs.declared.heads.CType.TheVariants.{Void}
 use Rattle.vk_ast.specs.declared.names.NameId.{NameId}
-use Rattle.vk_ast.specs.Tree.{Tree, Trees, no_trees, more_trees}
-use Rattle.vk_rules_book.specs.Scopes.{Scope}
+use Rattle.vk_ast.specs.declared.expressions.Expr.{Expr}
+use Rattle.vk_ast.specs.Tree.{Tree, Trees, no_trees, more_trees, expr_of, exprs_of}
+use Rattle.vk_rules_book.specs.Scopes.{Scope, Meaning}
+use Rattle.vk_rules_book.specs.Typings.{wanted_types}
 use Rattle.vk_meaning.specs.World.{Array}
 use Rattle.vk_meaning.specs.Types.{next_type, next_types}
 use Rattle.vk_meaning.specs.Data.{Datum, as_type, Action, and_then}
@@ -16,7 +18,7 @@ use Rattle.vk_reading.specs.declared.held.Halt.{Halt}
 use Rattle.vk_reading.specs.declared.held.Halt.TheVariants.{Failed}
 use Rattle.vk_reading.specs.Held.{datum_of, IsHeld}
 use Rattle.vk_reading_steps.specs.Runs.{Run, Does, Adds, IsPassed, DoesArguments}
-use Rattle.vk_reading_steps.specs.Settings.{AreHeld}
+use Rattle.vk_reading_steps.specs.Settings.{AreHeld, data_of}
 use Rattle.vk_reading_steps.proofs.Steps.{does_then, does_fail, does_want}
 use Rattle.vk_reading_steps.proofs.Adds.{adds_arguments}
 
@@ -50,6 +52,17 @@ held_more [] h a i (suc k) x e = absurd (none-some x e)
 held_more (g ∷ hs) h a i zero x e = a zero x e
 held_more (g ∷ hs) h a i (suc k) x e = held_more hs h (λ j y f. a (suc j) y f) i k x e
 
+-- want of memory alone
+pub want_at : {arrays : List Array} {b n : Run} {action : (List Datum → Action) → Action} {given : List Datum} {x : Halt} → x ≡ Failed Memory →
+    DoesArguments arrays b action n given (Err (Failed Memory)) → DoesArguments arrays b action n given (Err x)
+want_at {arrays = arrays} {b = b} {n = n} {action = action} {given = given} e d = subst (λ (y : Halt). DoesArguments arrays b action n given (Err y)) (sym e) d
+
+-- ---- the first expression of a list, and those behind it
+
+pub first_split : (es : List Expr) (e : Expr) → 1 ≤ length es → e ≡ get_or es 0 e → es ≡ e ∷ take (length es - 1) (drop 1 es)
+first_split [] e h is = absurd (omega (arith, h))
+first_split (x ∷ es) e h is = ap (λ (y : Expr). y ∷ es) (sym is) ∙ ap (λ (ys : List Expr). e ∷ ys) (sym (take_all (length (x ∷ es) - 1) es (omega arith)))
+
 -- ---- what the code does of arguments
 
 module _ {arrays : List Array} {b : Run} where
@@ -57,6 +70,21 @@ module _ {arrays : List Array} {b : Run} where
       IsPassed arrays m (f (datum_of h)) n after r → IsPassed arrays b (and_then first f) n after r
   passed_behind n after f (Ok done) d p = λ end q e. does_then f d (p end q e)
   passed_behind n after f (Err x) d p = does_then f d p
+
+pub none_behind : {arrays : List Array} {b n : Run} (c : Context) (scope : Scope) (vs : Variables) {given : List Datum} {r : Result (Unit {0}) Halt} {hs : List Held} {es fs : List Expr}
+    {w m : Option Meaning} → hs ≡ [] → es ≡ fs → w ≡ m →
+    DoesArguments arrays b (with_arguments c scope vs (drop (length hs) (wanted_types w)) (exprs_of es) (data_of hs)) n given r →
+    DoesArguments arrays b (with_arguments c scope vs (wanted_types m) (exprs_of fs) []) n given r
+none_behind {arrays = arrays} {b = b} {n = n} c scope vs {given = given} {r = r} {es = es} {fs = fs} {w = w} {m = m} none same is d =
+    subst (λ (x : Option Meaning). DoesArguments arrays b (with_arguments c scope vs (wanted_types x) (exprs_of fs) []) n given r) is
+    (subst (λ (xs : List Expr). DoesArguments arrays b (with_arguments c scope vs (wanted_types w) (exprs_of xs) []) n given r) same
+    (subst (λ (xs : List Held). DoesArguments arrays b (with_arguments c scope vs (drop (length xs) (wanted_types w)) (exprs_of es) (data_of xs)) n given r) none d))
+
+pub split_behind : {arrays : List Array} {b n : Run} (c : Context) (scope : Scope) (vs : Variables) (ts : List CType) (before : List Datum) {given : List Datum} {r : Result (Unit {0}) Halt}
+    {es : List Expr} {e : Expr} {rest : List Expr} → es ≡ e ∷ rest → DoesArguments arrays b (with_arguments c scope vs ts (more_trees (expr_of e) (exprs_of rest)) before) n given r →
+    DoesArguments arrays b (with_arguments c scope vs ts (exprs_of es) before) n given r
+split_behind {arrays = arrays} {b = b} {n = n} c scope vs ts before {given = given} {r = r} is d =
+    subst (λ (xs : List Expr). DoesArguments arrays b (with_arguments c scope vs ts (exprs_of xs) before) n given r) (sym is) d
 
 module _ (c : Context) (scope : Scope) (vs : Variables) where
   pub none_passed : {arrays : List Array} {b : Run} (ts : List CType) (before : List Datum) → DoesArguments arrays b (with_arguments c scope vs ts no_trees before) b before (Ok tt)

@@ -11,7 +11,7 @@ ghost use Rattle.vk_reading_steps.specs.Runs.{Does, DoesArguments, run_of};
 ghost use Rattle.vk_reading_steps.specs.Settings.{AreHeld, context_in, data_of, variables_in};
 
 use vk_reading_steps::calls::Calls;
-use crate::arguments::wanted_type;
+use crate::arguments::add_argument;
 use vk_reading_steps::names::{address_of_name, value_of_name};
 use vk_reading_steps::operands::{
     binary_of, converted_to, decided, element_of, literal, loaded_of, moved_of, unary_of,
@@ -20,8 +20,7 @@ use vk_reading_steps::setting::Place;
 use vk_reading_steps::typing::{integer_type, moves_left, moves_right, pointed_type, typing};
 use vk_ast::{Expr, ExprKind};
 use vk_io::Sink;
-use vk_reading::held::{as_type, is_on, number_in};
-use vk_meaning::RunFail;
+use vk_reading::held::{is_on, number_in};
 use vk_reading::{Cells, Halt, Held};
 use vk_rules_names::Known;
 use vk_types::common;
@@ -107,9 +106,9 @@ pub fn evaluate<O: Sink, C: Calls<O>>(
     }
 }
 
-// A pointer to the object that an lvalue designates (C17 6.5.3.2).
+/// A pointer to the object that an lvalue designates (C17 6.5.3.2).
 #[cycle(evaluating)]
-fn address_of<O: Sink, C: Calls<O>>(
+pub fn address_of<O: Sink, C: Calls<O>>(
     calls: &C,
     cells: &mut Cells,
     out: &mut O,
@@ -136,9 +135,9 @@ fn address_of<O: Sink, C: Calls<O>>(
     }
 }
 
-// Evaluates the arguments of a call, each converted to its parameter's type, behind those that were evaluated before (C17 6.5.2.2).
+/// Evaluates the arguments of a call, each converted to its parameter's type, behind those that were evaluated before (C17 6.5.2.2).
 #[cycle(evaluating)]
-fn evaluate_arguments<O: Sink, C: Calls<O>>(
+pub fn evaluate_arguments<O: Sink, C: Calls<O>>(
     calls: &C,
     cells: &mut Cells,
     out: &mut O,
@@ -160,10 +159,7 @@ fn evaluate_arguments<O: Sink, C: Calls<O>>(
     let [e, rest @ ..] = arguments else {
         return Ok(());
     };
-    let to = wanted_type(known, values.len());
-    let value = as_type(evaluate(calls, cells, out, place, e)?, to);
-    if values.push(value).is_err() {
-        return Err(Halt::Failed(RunFail::Memory));
-    }
+    let value = evaluate(calls, cells, out, place, e)?;
+    add_argument(known, values, value)?;
     evaluate_arguments(calls, cells, out, place, known, rest, values)
 }

@@ -1,7 +1,7 @@
 //! The reader of trees: expressions are evaluated as they mean.
 #![tactic(auto)]
 
-pub mod arguments;
+mod arguments;
 pub mod expressions;
 
-pub use expressions::evaluate;
+pub use expressions::{address_of, evaluate, evaluate_arguments};

@@ -12,13 +12,13 @@ use Rattle.vk_reading.specs.declared.cells.Row.{Row}
 abbrev pub given_words : Ty → List Tree → List ℕ
 given_words ty es = map (λ e. word_of (wrap_number ty (initial_number e))) es
 
-pub record Cells : Type 0 where
+pub record FirstCells : Type 0 where
   pub ty : Ty
   pub words : List ℕ
 
-abbrev pub row_seen : Row → Cells
+abbrev pub row_seen : Row → FirstCells
 row_seen r = record { ty = r.ty; words = map (λ w. w.0) r.words.items }
 
 -- the cells of an array as the program begins
-abbrev pub cells_of : Array → Cells
+abbrev pub cells_of : Array → FirstCells
 cells_of a = record { ty = a.ty; words = a.given ++ replicate (a.length - length a.given) 0 }

@@ -1,0 +1,5 @@
+pub mod Arrays
+pub mod Noting
+pub mod Order
+pub mod Positions
+pub mod Rows
