@@ -3,3 +3,6 @@ pub mod Noting
 pub mod Order
 pub mod Positions
 pub mod Rows
+pub mod More
+pub mod Canonical
+pub mod Numbering

@@ -1,5 +1,7 @@
 -- The first place at which a test passes, one element after another.
-use Rattle.std.proofs.Common.{◌≡◌, ℕ, zero, suc, ◌+◌, Bool, true, false, cond, not, List, [], ◌∷◌, ◌++◌, length, nat_lt, Option, Some, None, position, refl, sym, ap, ◌∙◌, arith}
+use Rattle.std.proofs.Common.{◌≡◌, ℕ, zero, suc, ◌+◌, Bool, true, false, cond, not, ◌<◌, List, [], ◌∷◌, ◌++◌, length, take, get_or, map, nat_lt, bytes_eq, Option, Some, None, position, refl, sym, ap, ◌∙◌, arith}
+use Rattle.std.proofs.lemmas.List.{take_more, map-append, length-map, length-take-le}
+use Rattle.vk_meaning.specs.World.{Array}
 use Rattle.std.specs.Option.{option_or, option_map}
 use Rattle.std.specs.List.{position_or_len}
 use Rattle.std.proofs.lemmas.Grind.{common_steps}
@@ -45,3 +47,15 @@ module _ {X : Type 0} (p : X → Bool) where
   position_more [] x = position_first x []
   position_more (y ∷ ys) x = position_first y (ys ++ x ∷ []) ∙ ap (λ o. cond (p y) (Some 0) (option_map suc o)) (position_more ys x) ∙ behind_by (p y) (p x) (position p ys) (length ys)
       ∙ sym (ap (λ o. option_or o (cond (p x) (Some (suc (length ys))) None)) (position_first y ys))
+
+-- the first place of a name, with one item more of a list that a loop goes along
+pub one_numbered : {X : Type 0} (v : X → Array) (text : List ℕ) (xs : List X) (i : ℕ) (x : X) → i < length xs → x ≡ get_or xs i x → (old new : Option ℕ) →
+    old ≡ position (λ a. bytes_eq a.text text) (map v (take i xs)) → new ≡ option_or old (cond (bytes_eq (v x).text text) (Some i) None) →
+    new ≡ position (λ a. bytes_eq a.text text) (map v (take (i + 1) xs))
+one_numbered v text xs i x below is old new e n =
+    let p = λ (a : Array). bytes_eq a.text text in
+    let size : length (map v (take i xs)) ≡ i = length-map (take i xs) v ∙ length-take-le i xs (omega arith) in
+    n ∙ ap (λ o. option_or o (cond (p (v x)) (Some i) None)) e
+    ∙ ap (λ k. option_or (position p (map v (take i xs))) (cond (p (v x)) (Some k) None)) (sym size)
+    ∙ sym (position_more p (map v (take i xs)) (v x))
+    ∙ sym (ap (λ l. position p (map v l)) (take_more xs i x below ∙ ap (λ y. take i xs ++ y ∷ []) (sym is)) ∙ ap (position p) (map-append v (take i xs) (x ∷ [])))

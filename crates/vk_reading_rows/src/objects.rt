@@ -1,6 +1,6 @@
 // The objects of a program, in the order in which its arrays stand.
 
-ghost use Rattle.std.specs.Prelude.{◌≡◌, ◌++◌, IfOk, OnOk, filter_map, flat_map, map};
+ghost use Rattle.std.specs.Prelude.{◌≡◌, ◌∷◌, ◌++◌, [], IfOk, OnOk, filter_map, flat_map, map};
 ghost use Rattle.std.specs.Option.{option_map};
 ghost use Rattle.vk_ast.specs.Units.{item_of};
 ghost use Rattle.vk_rules_book.specs.Scopes.{text_of};
@@ -51,15 +51,30 @@ fn defined<'a>(checked: &'a Checked, item: &'a Item) -> Option<Placed<'a>>
     }
 }
 
+// Adds the object that an item defines.
+fn add_object<'a>(
+    list: &mut Vec<Placed<'a>>,
+    checked: &'a Checked,
+    item: &'a Item,
+) -> Result<(), Memory>
+    ensures { OnOk result (map array_seen list.new.items ≡ map array_seen list.old.items ++ filter_map (array_defined (judged checked.now)) (item_of item.now ∷ [])) }
+{
+    match defined(checked, item) {
+        Some(placed) => {
+            list.push(placed)?;
+            Ok(())
+        }
+        None => Ok(()),
+    }
+}
+
 // Adds the objects that a unit defines.
 fn add_objects<'a>(list: &mut Vec<Placed<'a>>, checked: &'a Checked) -> Result<(), Memory>
-    ensures { OnOk result (map array_seen list.new.items ≡
-        map array_seen list.old.items ++ filter_map (array_defined (judged checked.now)) (map item_of checked.now.unit.items.items)) }
+    ensures { OnOk result (map array_seen list.new.items ≡ map array_seen list.old.items ++ objects_of_unit (judged checked.now)) }
 {
-    for item in &checked.unit().items {
-        if let Some(placed) = defined(checked, item) {
-            list.push(placed)?;
-        }
+    let unit = checked.unit();
+    for item in &unit.items {
+        add_object(list, checked, item)?;
     }
     Ok(())
 }

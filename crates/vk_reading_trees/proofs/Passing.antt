@@ -1,5 +1,6 @@
 -- Arguments, one after another.
-use Rattle.std.proofs.Common.{◌≡◌, ℕ, zero, suc, ◌+◌, List, [], ◌∷◌, ◌++◌, drop, take, get_or, length, ◌-◌, ◌≤◌, slice_get, Option, Some, None, Result, Ok, Err, refl, sym, ap, subst, ◌∙◌, add-one, arith, take_all}
+use Rattle.std.proofs.Common.{◌≡◌, ℕ, zero, suc, ◌+◌, List, [], ◌∷◌, ◌++◌, ◌<◌, ◌≤◌, drop, get_or, length, slice_get, Option, Some, None, Result, Ok, Err, refl, sym, ap, subst, ◌∙◌, add-one}
+use Rattle.std.proofs.lemmas.List.{drop_all, drop_more}
 use Rattle.std.proofs.lemmas.Option.{none-some, same_Some}
 use Rattle.vk_kinds.specs.declared.heads.CType.{CType}
 use Rattle.vk_kinds.specs.declared.heads.CType.TheVariants.{Void}
@@ -16,6 +17,7 @@ use Rattle.vk_meaning.specs.declared.reading.RunFail.TheVariants.{Memory}
 use Rattle.vk_reading.specs.declared.held.Held.{Held}
 use Rattle.vk_reading.specs.declared.held.Halt.{Halt}
 use Rattle.vk_reading.specs.declared.held.Halt.TheVariants.{Failed}
+use Rattle.vk_reading.specs.Cells.{HaveWords}
 use Rattle.vk_reading.specs.Held.{datum_of, IsHeld}
 use Rattle.vk_reading_steps.specs.Runs.{Run, Does, Adds, IsPassed, DoesArguments}
 use Rattle.vk_reading_steps.specs.Settings.{AreHeld, data_of}
@@ -52,17 +54,6 @@ held_more [] h a i (suc k) x e = absurd (none-some x e)
 held_more (g ∷ hs) h a i zero x e = a zero x e
 held_more (g ∷ hs) h a i (suc k) x e = held_more hs h (λ j y f. a (suc j) y f) i k x e
 
--- want of memory alone
-pub want_at : {arrays : List Array} {b n : Run} {action : (List Datum → Action) → Action} {given : List Datum} {x : Halt} → x ≡ Failed Memory →
-    DoesArguments arrays b action n given (Err (Failed Memory)) → DoesArguments arrays b action n given (Err x)
-want_at {arrays = arrays} {b = b} {n = n} {action = action} {given = given} e d = subst (λ (y : Halt). DoesArguments arrays b action n given (Err y)) (sym e) d
-
--- ---- the first expression of a list, and those behind it
-
-pub first_split : (es : List Expr) (e : Expr) → 1 ≤ length es → e ≡ get_or es 0 e → es ≡ e ∷ take (length es - 1) (drop 1 es)
-first_split [] e h is = absurd (omega (arith, h))
-first_split (x ∷ es) e h is = ap (λ (y : Expr). y ∷ es) (sym is) ∙ ap (λ (ys : List Expr). e ∷ ys) (sym (take_all (length (x ∷ es) - 1) es (omega arith)))
-
 -- ---- what the code does of arguments
 
 module _ {arrays : List Array} {b : Run} where
@@ -79,12 +70,6 @@ none_behind {arrays = arrays} {b = b} {n = n} c scope vs {given = given} {r = r}
     subst (λ (x : Option Meaning). DoesArguments arrays b (with_arguments c scope vs (wanted_types x) (exprs_of fs) []) n given r) is
     (subst (λ (xs : List Expr). DoesArguments arrays b (with_arguments c scope vs (wanted_types w) (exprs_of xs) []) n given r) same
     (subst (λ (xs : List Held). DoesArguments arrays b (with_arguments c scope vs (drop (length xs) (wanted_types w)) (exprs_of es) (data_of xs)) n given r) none d))
-
-pub split_behind : {arrays : List Array} {b n : Run} (c : Context) (scope : Scope) (vs : Variables) (ts : List CType) (before : List Datum) {given : List Datum} {r : Result (Unit {0}) Halt}
-    {es : List Expr} {e : Expr} {rest : List Expr} → es ≡ e ∷ rest → DoesArguments arrays b (with_arguments c scope vs ts (more_trees (expr_of e) (exprs_of rest)) before) n given r →
-    DoesArguments arrays b (with_arguments c scope vs ts (exprs_of es) before) n given r
-split_behind {arrays = arrays} {b = b} {n = n} c scope vs ts before {given = given} {r = r} is d =
-    subst (λ (xs : List Expr). DoesArguments arrays b (with_arguments c scope vs ts (exprs_of xs) before) n given r) (sym is) d
 
 module _ (c : Context) (scope : Scope) (vs : Variables) where
   pub none_passed : {arrays : List Array} {b : Run} (ts : List CType) (before : List Datum) → DoesArguments arrays b (with_arguments c scope vs ts no_trees before) b before (Ok tt)
@@ -114,3 +99,57 @@ module _ (c : Context) (scope : Scope) (vs : Variables) where
       pub first_wanted : {arrays : List Array} {b m : Run} {h : Held} (given : List Datum) → Does arrays b (value_of c scope vs e) m (Ok h) →
           DoesArguments arrays b (with_arguments c scope vs ts (more_trees e es) before) m given (Err (Failed Memory))
       first_wanted {m = m} {h = h} given d = record { passes = λ next a. does_then (with_rest next) d (does_want m (with_rest next (datum_of h)) (adds_rest next a (datum_of h))) }
+
+-- ---- a loop along the arguments
+
+first_at : (es : List Expr) (i : ℕ) (e : Expr) → i < length es → e ≡ get_or es i e → drop i es ≡ e ∷ drop (i + 1) es
+first_at es i e below is = drop_more es i e below ∙ ap (λ (x : Expr). x ∷ drop (i + 1) es) (sym is)
+
+-- So many arguments were evaluated: what is done of the others then is done of all.
+pub record Passing (arrays : List Array) (c : Context) (scope : Scope) (vs : Variables) (wanted : List CType) (es : List Expr) (start : Run) (before : List Held)
+    (now : Run) (values : List Held) (count : ℕ) : Type 0 where
+  pub words : HaveWords now.rows
+  pub held : AreHeld values
+  pub goes : (end : Run) (given : List Datum) (r : Result (Unit {0}) Halt) →
+      DoesArguments arrays now (with_arguments c scope vs (drop (length values) wanted) (exprs_of (drop count es)) (data_of values)) end given r →
+      DoesArguments arrays start (with_arguments c scope vs (drop (length before) wanted) (exprs_of es) (data_of before)) end given r
+
+module _ {arrays : List Array} (c : Context) (scope : Scope) (vs : Variables) (wanted : List CType) (es : List Expr) where
+  pub passing_start : (start : Run) (before : List Held) → HaveWords start.rows → AreHeld before → Passing arrays c scope vs wanted es start before start before 0
+  passing_start start before w h = record { words = w; held = h; goes = λ end given r d. d }
+
+  module _ {start : Run} {before : List Held} {now : Run} {values : List Held} {i : ℕ} (p : Passing arrays c scope vs wanted es start before now values i) where
+    pub passing_end : length es ≤ i → DoesArguments arrays start (with_arguments c scope vs (drop (length before) wanted) (exprs_of es) (data_of before)) now (data_of values) (Ok tt)
+    passing_end all = p.goes now (data_of values) (Ok tt)
+        (subst (λ (xs : List Expr). DoesArguments arrays now (with_arguments c scope vs (drop (length values) wanted) (exprs_of xs) (data_of values)) now (data_of values) (Ok tt))
+        (sym (drop_all i es all)) (none_passed c scope vs (drop (length values) wanted) (data_of values)))
+
+    module _ {e : Expr} (below : i < length es) (is : e ≡ get_or es i e) where
+      with_first : (end : Run) (given : List Datum) (r : Result (Unit {0}) Halt) →
+          DoesArguments arrays now (with_arguments c scope vs (drop (length values) wanted) (more_trees (expr_of e) (exprs_of (drop (i + 1) es))) (data_of values)) end given r →
+          DoesArguments arrays start (with_arguments c scope vs (drop (length before) wanted) (exprs_of es) (data_of before)) end given r
+      with_first end given r d = p.goes end given r
+          (subst (λ (xs : List Expr). DoesArguments arrays now (with_arguments c scope vs (drop (length values) wanted) (exprs_of xs) (data_of values)) end given r) (sym (first_at es i e below is)) d)
+
+      pub passing_step : {m : Run} {h : Held} {more : List Held} → Does arrays now (value_of c scope vs (expr_of e)) m (Ok h) → HaveWords m.rows → AreHeld more →
+          length more ≡ length values + 1 → data_of more ≡ data_of values ++ as_type (next_type (drop (length values) wanted)) (datum_of h) ∷ [] →
+          Passing arrays c scope vs wanted es start before m more (i + 1)
+      passing_step d w a n f = record {
+        words = w;
+        held = a;
+        goes = λ end given r k. with_first end given r
+            (first_passed c scope vs (drop (length values) wanted) (expr_of e) (exprs_of (drop (i + 1) es)) (data_of values) given r f
+            (ap (λ (j : ℕ). drop j wanted) n ∙ behind_next wanted (length values)) d k);
+      }
+
+      module _ (calls : (id : NameId) (ds : List Datum) → Adds (c.call id ds)) where
+        pub passing_halted : {m : Run} {x : Halt} (given : List Datum) → Does arrays now (value_of c scope vs (expr_of e)) m (Err x) →
+            DoesArguments arrays start (with_arguments c scope vs (drop (length before) wanted) (exprs_of es) (data_of before)) m given (Err x)
+        passing_halted {m = m} {x = x} given d = with_first m given (Err x)
+            (first_halted c scope vs (drop (length values) wanted) (expr_of e) (exprs_of (drop (i + 1) es)) (data_of values) calls given d)
+
+        pub passing_wanted : {m : Run} {h : Held} {x : Halt} (given : List Datum) → x ≡ Failed Memory → Does arrays now (value_of c scope vs (expr_of e)) m (Ok h) →
+            DoesArguments arrays start (with_arguments c scope vs (drop (length before) wanted) (exprs_of es) (data_of before)) m given (Err x)
+        passing_wanted {m = m} {x = x} given want d = with_first m given (Err x)
+            (subst (λ (y : Halt). DoesArguments arrays now (with_arguments c scope vs (drop (length values) wanted) (more_trees (expr_of e) (exprs_of (drop (i + 1) es))) (data_of values)) m given (Err y)) (sym want)
+            (first_wanted c scope vs (drop (length values) wanted) (expr_of e) (exprs_of (drop (i + 1) es)) (data_of values) calls given d))

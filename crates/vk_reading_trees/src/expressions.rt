@@ -156,10 +156,9 @@ pub fn evaluate_arguments<O: Sink, C: Calls<O>>(
         (drop (length values.old.items) (wanted_types (meaning_seen known.now))) (exprs_of arguments.now) (data_of values.old.items))
         (run_of cells.new.rows.items (O.state out.new)) (data_of values.new.items) result }
 {
-    let [e, rest @ ..] = arguments else {
-        return Ok(());
-    };
-    let value = evaluate(calls, cells, out, place, e)?;
-    add_argument(known, values, value)?;
-    evaluate_arguments(calls, cells, out, place, known, rest, values)
+    for e in arguments {
+        let value = evaluate(calls, cells, out, place, e)?;
+        add_argument(known, values, value)?;
+    }
+    Ok(())
 }

@@ -1,15 +1,15 @@
-use Rattle.std.proofs.Common.{ℕ, drop, length, sym, ap, ◌∙◌}
+use Rattle.std.proofs.Common.{sym, ap, ◌∙◌}
 use Rattle.std.specs.Option.{option_map}
 use Rattle.vk_ast.specs.Tree.{expr_of}
 use Rattle.vk_rules_book.specs.Typings.{wanted_types}
 use Rattle.vk_rules_names.specs.Seen.{meaning_seen, scope_of}
 use Rattle.vk_meaning.specs.Expressions.{integer_type, pointed_type}
 use Rattle.vk_reading.specs.Held.{datum_of}
-use Rattle.vk_reading_steps.specs.Settings.{context_in, data_of, variables_in}
+use Rattle.vk_reading_steps.specs.Settings.{context_in, variables_in}
 use Rattle.vk_reading_steps.proofs.Adds.{adds_value}
 use Rattle.vk_reading_trees.proofs.Nodes.{unary_does, load_does, load_failed, element_does, element_failed, first_does, second_does, choice_failed, exit_does, exit_passed, typed, common_is, value_seen, value_at, address_at, call_at, given_seen}
 use Rattle.vk_reading_trees.proofs.Operators.{left_moves, left_failed, right_moves, right_failed, numbers_failed, numbers_both, left_is, right_is, on_is}
-use Rattle.vk_reading_trees.proofs.Passing.{behind_next, first_split, none_behind, split_behind, first_passed, first_halted, first_wanted, want_at}
+use Rattle.vk_reading_trees.proofs.Passing.{none_behind, passing_start, passing_step, passing_halted, passing_wanted, passing_end}
 use Rattle.vk_reading_trees.proofs.expressions.+evaluating.Goals as goal
 
 pub address_of-returns-in_err-p-in-Index-clause-does : goal.address_of-returns-in_err-p-in-Index-clause-does
@@ -39,7 +39,7 @@ evaluate-returns-in_ok-p-in-Index-clause-does g t c =
 
 pub evaluate-returns-in-Name-clause-does : goal.evaluate-returns-in-Name-clause-does
 evaluate-returns-in-Name-clause-does g t c =
-    value_at (context_in (g.C.Calls.arrays c.args.calls.now) (g.C.Calls.call c.args.calls.now) c.args.place.now.setting) (scope_of c.args.place.now.scopes) (variables_in c.args.place.now.values.now) c.args.e.now _ c.in-Name.is (c.value_of_name.ensures.does _ _ _)
+    value_at (context_in (g.C.Calls.arrays c.args.calls.now) (g.C.Calls.call c.args.calls.now) c.args.place.now.setting) (scope_of c.args.place.now.scopes) (variables_in c.args.place.now.values.now) c.args.e.now _ c.in-Name.is (c.value_of_name.ensures.does (g.C.Calls.arrays c.args.calls.now) (g.C.Calls.call c.args.calls.now) (g.O.Sink.state c.args.out.now))
 
 pub evaluate-returns-in-Deref-clause-does : goal.evaluate-returns-in-Deref-clause-does
 evaluate-returns-in-Deref-clause-does g t c =
@@ -140,21 +140,25 @@ evaluate-returns-in_ok-evaluate_arguments-in-Call-clause-does g t c =
     ((none_behind (context_in (g.C.Calls.arrays c.args.calls.now) (g.C.Calls.call c.args.calls.now) c.args.place.now.setting) (scope_of c.args.place.now.scopes) (variables_in c.args.place.now.values.now) c.new-values.ensures.items c.deref-in-Call.ensures.value c.meaning-known.ensures c.in_ok-evaluate_arguments-in-Call.ensures.does).passes (g.C.Calls.call c.args.calls.now c.in-Call.id) ((g.met.C.Calls.adds c.args.calls.now) c.in-Call.id) _ _
     (given_seen (g.C.Calls.call c.args.calls.now c.in-Call.id) c.deref-in-Call-2.ensures.value c.call.ensures.does)))
 
+pub evaluate_arguments-loop-e-init : goal.evaluate_arguments-loop-e-init
+evaluate_arguments-loop-e-init g t c =
+    passing_start (context_in (g.C.Calls.arrays c.args.calls.now) (g.C.Calls.call c.args.calls.now) c.args.place.now.setting) (scope_of c.args.place.now.scopes) (variables_in c.args.place.now.values.now) (wanted_types (meaning_seen c.args.known.now)) c.args.arguments.now _ _ c.requires.words c.requires.before
+
+pub evaluate_arguments-loop-e-preserved : goal.evaluate_arguments-loop-e-preserved
+evaluate_arguments-loop-e-preserved g t c =
+    passing_step (context_in (g.C.Calls.arrays c.args.calls.now) (g.C.Calls.call c.args.calls.now) c.args.place.now.setting) (scope_of c.args.place.now.scopes) (variables_in c.args.place.now.values.now) (wanted_types (meaning_seen c.args.known.now)) c.args.arguments.now c.loop-e.invariant c.loop-e-test.true c.e-item.is c.in_ok-value.ensures.does c.evaluate.ensures.words c.in_ok-add_argument.ensures.held
+    c.in_ok-add_argument.ensures.count c.in_ok-add_argument.ensures.added
+
 pub evaluate_arguments-returns-in_err-value-clause-does : goal.evaluate_arguments-returns-in_err-value-clause-does
 evaluate_arguments-returns-in_err-value-clause-does g t c =
     exit_passed c.from_residual.result c.from_residual.ensures.1
-    (split_behind (context_in (g.C.Calls.arrays c.args.calls.now) (g.C.Calls.call c.args.calls.now) c.args.place.now.setting) (scope_of c.args.place.now.scopes) (variables_in c.args.place.now.values.now) (drop (length c.args.values.now.items) (wanted_types (meaning_seen c.args.known.now))) (data_of c.args.values.now.items) (first_split c.args.arguments.now c.e-item.result c.in-len1-up.len_at_least c.e-item.is)
-    (first_halted (context_in (g.C.Calls.arrays c.args.calls.now) (g.C.Calls.call c.args.calls.now) c.args.place.now.setting) (scope_of c.args.place.now.scopes) (variables_in c.args.place.now.values.now) (drop (length c.args.values.now.items) (wanted_types (meaning_seen c.args.known.now))) (expr_of c.e-item.result) _ (data_of c.args.values.now.items) (g.met.C.Calls.adds c.args.calls.now) _ c.in_err-value.ensures.does))
+    (passing_halted (context_in (g.C.Calls.arrays c.args.calls.now) (g.C.Calls.call c.args.calls.now) c.args.place.now.setting) (scope_of c.args.place.now.scopes) (variables_in c.args.place.now.values.now) (wanted_types (meaning_seen c.args.known.now)) c.args.arguments.now c.loop-e.invariant c.loop-e-test.true c.e-item.is (g.met.C.Calls.adds c.args.calls.now) _ c.in_err-value.ensures.does)
 
 pub evaluate_arguments-returns-in_err-add_argument-clause-does : goal.evaluate_arguments-returns-in_err-add_argument-clause-does
 evaluate_arguments-returns-in_err-add_argument-clause-does g t c =
     exit_passed c.from_residual-in_err-add_argument.result c.from_residual-in_err-add_argument.ensures.1
-    (split_behind (context_in (g.C.Calls.arrays c.args.calls.now) (g.C.Calls.call c.args.calls.now) c.args.place.now.setting) (scope_of c.args.place.now.scopes) (variables_in c.args.place.now.values.now) (drop (length c.args.values.now.items) (wanted_types (meaning_seen c.args.known.now))) (data_of c.args.values.now.items) (first_split c.args.arguments.now c.e-item.result c.in-len1-up.len_at_least c.e-item.is)
-    (want_at c.in_err-add_argument.ensures.memory (first_wanted (context_in (g.C.Calls.arrays c.args.calls.now) (g.C.Calls.call c.args.calls.now) c.args.place.now.setting) (scope_of c.args.place.now.scopes) (variables_in c.args.place.now.values.now) (drop (length c.args.values.now.items) (wanted_types (meaning_seen c.args.known.now))) (expr_of c.e-item.result) _ (data_of c.args.values.now.items) (g.met.C.Calls.adds c.args.calls.now) _ c.in_ok-value.ensures.does)))
+    (passing_wanted (context_in (g.C.Calls.arrays c.args.calls.now) (g.C.Calls.call c.args.calls.now) c.args.place.now.setting) (scope_of c.args.place.now.scopes) (variables_in c.args.place.now.values.now) (wanted_types (meaning_seen c.args.known.now)) c.args.arguments.now c.loop-e.invariant c.loop-e-test.true c.e-item.is (g.met.C.Calls.adds c.args.calls.now) _ c.in_err-add_argument.ensures.memory c.in_ok-value.ensures.does)
 
 pub evaluate_arguments-returns-clause-does : goal.evaluate_arguments-returns-clause-does
 evaluate_arguments-returns-clause-does g t c =
-    split_behind (context_in (g.C.Calls.arrays c.args.calls.now) (g.C.Calls.call c.args.calls.now) c.args.place.now.setting) (scope_of c.args.place.now.scopes) (variables_in c.args.place.now.values.now) (drop (length c.args.values.now.items) (wanted_types (meaning_seen c.args.known.now))) (data_of c.args.values.now.items) (first_split c.args.arguments.now c.e-item.result c.in-len1-up.len_at_least c.e-item.is)
-    (first_passed (context_in (g.C.Calls.arrays c.args.calls.now) (g.C.Calls.call c.args.calls.now) c.args.place.now.setting) (scope_of c.args.place.now.scopes) (variables_in c.args.place.now.values.now) (drop (length c.args.values.now.items) (wanted_types (meaning_seen c.args.known.now))) (expr_of c.e-item.result) _ (data_of c.args.values.now.items) _ _ c.in_ok-add_argument.ensures.added
-    (ap (λ (k : ℕ). drop k (wanted_types (meaning_seen c.args.known.now))) c.in_ok-add_argument.ensures.count ∙ behind_next (wanted_types (meaning_seen c.args.known.now)) (length c.args.values.now.items))
-    c.in_ok-value.ensures.does c.evaluate_arguments.ensures.does)
+    passing_end (context_in (g.C.Calls.arrays c.args.calls.now) (g.C.Calls.call c.args.calls.now) c.args.place.now.setting) (scope_of c.args.place.now.scopes) (variables_in c.args.place.now.values.now) (wanted_types (meaning_seen c.args.known.now)) c.args.arguments.now c.loop-e.invariant c.loop-e-test.false
