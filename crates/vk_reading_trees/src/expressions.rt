@@ -10,18 +10,18 @@ ghost use Rattle.vk_rules_names.specs.Seen.{meaning_seen, scope_of};
 ghost use Rattle.vk_reading_steps.specs.Runs.{Does, DoesArguments, run_of};
 ghost use Rattle.vk_reading_steps.specs.Settings.{AreHeld, context_in, data_of, variables_in};
 
-use vk_reading_steps::calls::Calls;
 use crate::arguments::add_argument;
+use vk_ast::{Expr, ExprKind};
+use vk_io::Sink;
+use vk_reading::held::{is_on, number_in};
+use vk_reading::{Cells, Halt, Held};
+use vk_reading_steps::calls::Calls;
 use vk_reading_steps::names::{address_of_name, value_of_name};
 use vk_reading_steps::operands::{
     binary_of, converted_to, decided, element_of, literal, loaded_of, moved_of, unary_of,
 };
 use vk_reading_steps::setting::Place;
 use vk_reading_steps::typing::{integer_type, moves_left, moves_right, pointed_type, typing};
-use vk_ast::{Expr, ExprKind};
-use vk_io::Sink;
-use vk_reading::held::{is_on, number_in};
-use vk_reading::{Cells, Halt, Held};
 use vk_rules_names::Known;
 use vk_types::common;
 
