@@ -1,6 +1,6 @@
-//! The tables of objects that come in pieces of any lengths.
+//! The fields of objects that come in pieces of any lengths.
 #![tactic(auto)]
 
 pub mod feed;
 
-pub use feed::RawObjectFeed;
+pub use feed::PendingFields;

@@ -1,0 +1,275 @@
+-- The first bad part of rows is the earlier one of the first that code can't hold and the first bad one of the code.
+use Rattle.std.proofs.Common.{◌≡◌, ℕ, zero, suc, ◌+◌, ◌-◌, ◌%◌, ◌<◌, ◌≤◌, ltb, min, Bool, true, false, not, ◌&&◌, cond, List, [], ◌∷◌, ◌++◌, length, map, Option, Some, None, is_none, refl, sym, ap, ap₂, ◌∙◌, arith, inl, inr}
+use Rattle.std.specs.Prelude.{nat_le, nat_lt}
+use Rattle.std.specs.List.{list_all}
+use Rattle.std.specs.Option.{option_map}
+use Rattle.std.proofs.lemmas.Bool.{cases_Bool, false≢true, leb-true, leb-false, ltb-true}
+use Rattle.std.proofs.lemmas.List.{length-map}
+use Rattle.vk_kinds.specs.Types.{ctype_number}
+use Rattle.vk_code.specs.declared.code.Shape.TheVariants as shape
+use Rattle.vk_code.specs.declared.instruction.Instr.{Instr}
+use Rattle.vk_code.specs.declared.instruction.Operation.{Operation}
+use Rattle.vk_code.specs.declared.instruction.Operation.TheVariants as op
+use Rattle.vk_code.specs.Instruction.{block_of, operation_of}
+use Rattle.vk_code.specs.Listing.{CallSite, LoopBody, Routine, own, numbered}
+use Rattle.vk_code.specs.Tests.{first_bad, holds}
+use Rattle.vk_code.specs.Valid.{Environment, body_verdicts, fault_of, has_good_counts, has_good_registers, instr_verdicts, is_good_head, is_good_instr, is_good_loop, is_good_routine, is_good_slot, is_result, is_typed, verdicts}
+use Rattle.vk_code.proofs.Faults.{and_left, and_right}
+use Rattle.vk_code_format.specs.declared.rows.ShapeKind.{ShapeKind}
+use Rattle.vk_code_format.specs.declared.rows.ShapeKind.TheVariants.{Vector, Uniform, By, Along, Literal, Same}
+use Rattle.vk_code_format.specs.declared.rows.ArgRow.{ArgRow}
+use Rattle.vk_code_format.specs.declared.rows.BodyRow.{BodyRow}
+use Rattle.vk_code_format.specs.declared.rows.BodyRow.TheVariants.{Inline, Number}
+use Rattle.vk_code_format.specs.declared.rows.CodeRow.{CodeRow}
+use Rattle.vk_code_format.specs.declared.rows.LoopRow.{LoopRow}
+use Rattle.vk_code_format.specs.declared.rows.RoutineRow.{RoutineRow}
+use Rattle.vk_code_format.specs.declared.rows.SlotRow.{SlotRow}
+use Rattle.vk_code_format.specs.Values.{arg_of, bad_part, body_of, body_has_places, call_of, earlier, has_place, has_places, listing_of, places_verdicts, routine_of, shape_of, site_of}
+use Rattle.vk_code_rows.specs.Made.{has_few_params, is_near_arg, is_near_body, is_near_call, is_near_loop, is_near_shape, made_arg, made_call, made_listing, made_routine, made_shape, made_site, near_verdicts}
+
+-- ---- two lists of verdicts
+
+both : List Bool → List Bool → List Bool
+both [] vs = vs
+both (p ∷ ps) [] = p ∷ both ps []
+both (p ∷ ps) (v ∷ vs) = (p && v) ∷ both ps vs
+
+later : (a b : Option ℕ) → earlier (option_map (λ n. n + 1) a) (option_map (λ n. n + 1) b) ≡ option_map (λ n. n + 1) (earlier a b)
+later None b = refl
+later (Some m) None = refl
+later (Some m) (Some n) = ap Some (omega arith)
+
+zero_left : (o : Option ℕ) → earlier (Some 0) o ≡ Some 0
+zero_left None = refl
+zero_left (Some n) = ap Some (omega arith)
+
+zero_right : (o : Option ℕ) → earlier o (Some 0) ≡ Some 0
+zero_right None = refl
+zero_right (Some n) = ap Some (omega arith)
+
+earlier_is : (ps vs : List Bool) → earlier (first_bad ps) (first_bad vs) ≡ first_bad (both ps vs)
+unfolding both
+earlier_is [] vs = refl
+earlier_is (false ∷ ps) [] = refl
+earlier_is (true ∷ ps) [] = later (first_bad ps) None ∙ ap (option_map (λ n. n + 1)) (earlier_is ps [])
+earlier_is (false ∷ ps) (v ∷ vs) = zero_left (first_bad (v ∷ vs))
+earlier_is (true ∷ ps) (false ∷ vs) = zero_right (option_map (λ n. n + 1) (first_bad ps))
+earlier_is (true ∷ ps) (true ∷ vs) = later (first_bad ps) (first_bad vs) ∙ ap (option_map (λ n. n + 1)) (earlier_is ps vs)
+
+-- members that agree, and then what follows
+agree : {A B C : Type 0} (p : B → Bool) (v : B → Bool) (f : A → B) (q : A → Bool) (w : C → Bool) (g : A → C) → ((x : A) → (p (f x) && v (f x)) ≡ (q x && w (g x)))
+    → (xs : List A) (ps vs qs ws : List Bool) → both ps vs ≡ both qs ws
+    → both (map p (map f xs) ++ ps) (map v (map f xs) ++ vs) ≡ both (map q xs ++ qs) (map w (map g xs) ++ ws)
+unfolding both
+agree p v f q w g same [] ps vs qs ws h = h
+agree p v f q w g same (x ∷ xs) ps vs qs ws h = ap₂ (λ (b : Bool) (bs : List Bool). b ∷ bs) (same x) (agree p v f q w g same xs ps vs qs ws h)
+
+-- ---- slots
+
+near_is : (k : ShapeKind) (v : ℕ) (reg : ℕ) → has_place (arg_of (record { reg = reg; kind = k; value = v })) ≡ is_near_shape k v
+near_is Vector v reg = refl
+near_is Uniform v reg = refl
+near_is By v reg = refl
+near_is Along v reg = refl
+near_is Literal v reg = refl
+near_is Same v reg = refl
+
+near_args : (xs : List ArgRow) → list_all has_place (map arg_of xs) ≡ list_all is_near_arg xs
+near_args [] = refl
+near_args (x ∷ xs) = ap₂ (λ a b. a && b) (near_is x.kind x.value x.reg) (near_args xs)
+
+near_calls : (xs : List SlotRow) → list_all has_places (map call_of xs) ≡ list_all is_near_call xs
+near_calls [] = refl
+near_calls (x ∷ xs) = ap₂ (λ a b. a && b) (near_args x.args) (near_calls xs)
+
+shape_same : (k : ShapeKind) (v : ℕ) → is_near_shape k v ≡ true → made_shape k v ≡ shape_of k v
+shape_same Vector v h = refl
+shape_same Uniform v h = refl
+shape_same By v h = refl
+shape_same Along v h =
+    let lt : v < 256 = ltb-true _ _ h in
+    let same : v % 256 ≡ v = omega (arith, lt) in
+    ap (λ n. shape.Along n) same
+shape_same Literal v h = refl
+shape_same Same v h =
+    let lt : v < 256 = ltb-true _ _ h in
+    let same : v % 256 ≡ v = omega (arith, lt) in
+    ap (λ n. shape.Same n) same
+
+args_same : (xs : List ArgRow) → list_all is_near_arg xs ≡ true → map made_arg xs ≡ map arg_of xs
+args_same [] h = refl
+args_same (x ∷ xs) h =
+    ap₂ (λ a b. a ∷ b) (ap (λ s. record { reg = x.reg; shape = s }) (shape_same x.kind x.value (and_left _ _ h))) (args_same xs (and_right (is_near_arg x) _ h))
+
+call_same : (s : SlotRow) → is_near_call s ≡ true → made_call s ≡ call_of s
+call_same s h = ap (λ args. record { function = s.function; always = s.always; result = s.result; args = args }) (args_same s.args h)
+
+calls_same : (xs : List SlotRow) → list_all is_near_call xs ≡ true → map made_call xs ≡ map call_of xs
+calls_same [] h = refl
+calls_same (x ∷ xs) h = ap₂ (λ a b. a ∷ b) (call_same x (and_left _ _ h)) (calls_same xs (and_right (is_near_call x) _ h))
+
+-- where a test fails, what follows it is nothing
+when : (b c x y : Bool) → b ≡ c → (c ≡ true → x ≡ y) → (b && x) ≡ (c && y)
+when true true x y e h = h refl
+when true false x y e h = absurd (false≢true (sym e))
+when false true x y e h = absurd (false≢true e)
+when false false x y e h = refl
+
+module _ (e : Environment) (r : RoutineRow) (loops : ℕ) (few : nat_le r.front.params 65535 ≡ true) where
+  few_params : min r.front.params 65535 ≡ r.front.params
+  few_params = let le : r.front.params ≤ 65535 = leb-true _ _ few in omega (arith, le)
+
+  slot_good : (s : CallSite) → is_good_slot e (routine_of r loops) s ≡ is_good_slot e (made_routine r loops) s
+  slot_good s =
+      ap (λ (k : ℕ). is_good_slot e (record {
+        lane_code = r.front.lane_code;
+        params = k;
+        result = r.front.result;
+        regs = r.front.regs;
+        masks = r.front.masks;
+        slots = [];
+        loops = loops;
+        instrs = r.instrs;
+      }) s) (sym few_params)
+
+  slot_same : (s : SlotRow) → (has_places (call_of s) && is_good_slot e (routine_of r loops) (call_of s)) ≡ (is_near_call s && is_good_slot e (made_routine r loops) (made_call s))
+  slot_same s = when _ _ _ _ (near_args s.args) (λ near. slot_good (call_of s) ∙ ap (is_good_slot e (made_routine r loops)) (sym (call_same s near)))
+
+-- ---- heads
+
+far_head : (c : Routine) → nat_le c.params 65535 ≡ false → is_good_head c ≡ false
+far_head c far = elim (cases_Bool (is_good_head c)) [
+  | inl good ↦
+      let registers = and_left (has_good_registers c) (has_good_counts c) (and_left (has_good_registers c && has_good_counts c) (list_all (λ t. nat_lt (ctype_number t) 24) c.regs) good) in
+      let inside = and_left (nat_le 1 c.masks && nat_le (length c.regs + c.masks) 8192 && nat_le c.params (length c.regs)) (is_result (length c.regs) c.result) registers in
+      let params : c.params ≤ length c.regs = leb-true _ _ (and_right (nat_le 1 c.masks && nat_le (length c.regs + c.masks) 8192) (nat_le c.params (length c.regs)) inside) in
+      let room : length c.regs + c.masks ≤ 8192 = leb-true _ _ (and_right (nat_le 1 c.masks) (nat_le (length c.regs + c.masks) 8192) (and_left (nat_le 1 c.masks && nat_le (length c.regs + c.masks) 8192) (nat_le c.params (length c.regs)) inside)) in
+      let many : 65535 < c.params = leb-false _ _ far in
+      absurd (omega (arith, params, room, many))
+  | inr bad ↦ bad
+]
+
+-- ---- loops
+
+-- one test of several fails
+fails_last : (a b : Bool) → b ≡ false → (a && b) ≡ false
+fails_last true b h = h
+fails_last false b h = refl
+
+fails_first : (a b : Bool) → a ≡ false → (a && b) ≡ false
+fails_first true b h = absurd (false≢true (sym h))
+fails_first false b h = refl
+
+bad_routine : (e : Environment) (c : Routine) → nat_le c.params 65535 ≡ false → is_good_routine e c ≡ false
+bad_routine e c far = fails_first _ _ (fails_first _ _ (far_head c far))
+
+module _ (e : Environment) (r : RoutineRow) (loops : ℕ) where
+  -- a loop's own tests don't speak of the calls of the code that it stands in, nor of its parameters
+  site_good : (l : LoopRow) → is_good_loop e (routine_of r loops) (made_site l) ≡ is_good_loop e (made_routine r loops) (made_site l)
+  site_good l = site_by l (made_body l.body)
+    where
+      site_by : (l : LoopRow) (b : LoopBody) → is_good_loop e (routine_of r loops) (record { simdlen = l.simdlen; low = l.low; high = l.high; captures = l.captures; guards = l.guards; body = b })
+          ≡ is_good_loop e (made_routine r loops) (record { simdlen = l.simdlen; low = l.low; high = l.high; captures = l.captures; guards = l.guards; body = b })
+      site_by l (own x) = refl
+      site_by l (numbered n) = refl
+
+  site_with : LoopRow → BodyRow → LoopRow
+  site_with l b = record { simdlen = l.simdlen; low = l.low; high = l.high; captures = l.captures; guards = l.guards; body = b }
+
+  loop_by : (l : LoopRow) (b : BodyRow) → (body_has_places (body_of b) && is_good_loop e (routine_of r loops) (site_of (site_with l b)))
+      ≡ (is_near_body b && is_good_loop e (made_routine r loops) (made_site (site_with l b)))
+  unfolding site_with
+  loop_by l (Number n) = refl
+  loop_by l (Inline b) = elim (cases_Bool (has_few_params b)) [
+    | inl few ↦
+        rw few (when _ _ _ _ (near_calls b.front.slots) (λ near.
+            let body : routine_of b 0 ≡ made_routine b 0 = body_same b few near in
+            ap (λ (x : Routine). is_good_loop e (routine_of r loops) (record { simdlen = l.simdlen; low = l.low; high = l.high; captures = l.captures; guards = l.guards; body = own x })) body
+            ∙ site_good (site_with l (Inline b))))
+    | inr far ↦
+        fails_last _ _ (fails_last _ _ (fails_last _ _ (fails_last _ _ (bad_routine e (routine_of b 0) far))))
+        ∙ sym (fails_first _ _ (fails_first _ _ far))
+  ]
+    where
+      body_same : (b : RoutineRow) → has_few_params b ≡ true → list_all is_near_call b.front.slots ≡ true → routine_of b 0 ≡ made_routine b 0
+      body_same b few near = ?
+
+  loop_same : (l : LoopRow) → (body_has_places (site_of l).body && is_good_loop e (routine_of r loops) (site_of l)) ≡ (is_near_loop l && is_good_loop e (made_routine r loops) (made_site l))
+  unfolding site_with
+  loop_same l = loop_by l l.body
+
+-- ---- instructions
+
+typed_same : (e : Environment) (r : RoutineRow) (loops : ℕ) (o : Operation) → is_typed e (routine_of r loops) o ≡ is_typed e (made_routine r loops) o
+typed_same e r loops (op.Const t d value) = refl
+typed_same e r loops (op.Copy d a) = refl
+typed_same e r loops (op.Convert d a) = refl
+typed_same e r loops (op.Binary o t d a b) = refl
+typed_same e r loops (op.Compare o t d a b) = refl
+typed_same e r loops (op.Unary o t d a) = refl
+typed_same e r loops (op.Lane d) = refl
+typed_same e r loops (op.Load d a) = refl
+typed_same e r loops (op.Store a b) = refl
+typed_same e r loops (op.PtrAdd d a b) = refl
+typed_same e r loops (op.Addr d object) = refl
+typed_same e r loops (op.MaskOf d a) = refl
+typed_same e r loops (op.MaskAnd d a b) = refl
+typed_same e r loops (op.MaskOr d a b) = refl
+typed_same e r loops (op.MaskBut d a b) = refl
+typed_same e r loops (op.Loop count) = refl
+typed_same e r loops (op.Call slot) = ap (nat_lt slot) (length-map r.front.slots call_of ∙ sym (length-map r.front.slots made_call))
+typed_same e r loops (op.Print a) = refl
+typed_same e r loops (op.SimdLoop number) = refl
+
+holds_same : {A : Type 0} (p q : A → Bool) → ((x : A) → p x ≡ q x) → (o : Option A) → holds p o ≡ holds q o
+holds_same p q same None = refl
+holds_same p q same (Some x) = same x
+
+instr_same : (e : Environment) (r : RoutineRow) (loops : ℕ) (i : Instr) → is_good_instr e (routine_of r loops) i ≡ is_good_instr e (made_routine r loops) i
+instr_same e r loops i = ap (λ b. nat_lt i.m r.front.masks && b) (holds_same _ _ (typed_same e r loops) (operation_of i))
+
+instrs_same : (e : Environment) (c d : Routine) → ((i : Instr) → is_good_instr e c i ≡ is_good_instr e d i) → (room : ℕ) (is : List Instr) (skip count : ℕ)
+    → instr_verdicts e c room is skip count ≡ instr_verdicts e d room is skip count
+instrs_same e c d same room [] skip count = refl
+instrs_same e c d same room (i ∷ is) (suc skip) count = instrs_same e c d same room is skip count
+instrs_same e c d same room (i ∷ is) zero zero = refl
+instrs_same e c d same room (i ∷ is) zero (suc n) = by_block (block_of i)
+  where
+    by_block : (o : Option ℕ) → elim o as (λ _. List Bool) [
+      | None ↦ is_good_instr e c i ∷ instr_verdicts e c room is zero n
+      | Some x ↦ (is_good_instr e c i && nat_le x n && nat_lt 0 room) ∷ (instr_verdicts e c (room - 1) is zero x ++ instr_verdicts e c room is x (n - x))
+    ] ≡ elim o as (λ _. List Bool) [
+      | None ↦ is_good_instr e d i ∷ instr_verdicts e d room is zero n
+      | Some x ↦ (is_good_instr e d i && nat_le x n && nat_lt 0 room) ∷ (instr_verdicts e d (room - 1) is zero x ++ instr_verdicts e d room is x (n - x))
+    ]
+    by_block None = rw (same i, instrs_same e c d same room is zero n) refl
+    by_block (Some x) = rw (same i, instrs_same e c d same (room - 1) is zero x, instrs_same e c d same room is x (n - x)) refl
+
+-- ---- the code
+
+first_of_both : (a b : Bool) (ps vs : List Bool) → b ≡ false → first_bad (both (a ∷ ps) (b ∷ vs)) ≡ Some 0
+unfolding both
+first_of_both a b ps vs h = rw (fails_last a b h) refl
+
+module _ (e : Environment) (c : CodeRow) where
+  verdicts_same : has_few_params c.routine ≡ true → both (places_verdicts (listing_of c)) (verdicts e (listing_of c)) ≡ both (near_verdicts c) (verdicts e (made_listing c))
+  unfolding both
+  verdicts_same few =
+      let n = length c.loops in
+      let r = routine_of c.routine n in
+      let m = made_routine c.routine n in
+      ap₂ (λ (b : Bool) (bs : List Bool). b ∷ bs) ?
+      (agree has_places (is_good_slot e r) call_of is_near_call (is_good_slot e m) made_call (slot_same e c.routine n few) c.routine.front.slots _ _ _ _
+      ?)
+
+  pub bad_same : bad_part e (listing_of c) ≡ earlier (first_bad (near_verdicts c)) (fault_of e (made_listing c))
+  bad_same = elim (cases_Bool (has_few_params c.routine)) [
+    | inl few ↦
+        earlier_is (places_verdicts (listing_of c)) (verdicts e (listing_of c))
+        ∙ ap first_bad (verdicts_same few)
+        ∙ sym (earlier_is (near_verdicts c) (verdicts e (made_listing c)))
+    | inr far ↦
+        earlier_is (places_verdicts (listing_of c)) (verdicts e (listing_of c))
+        ∙ first_of_both true (is_good_head (listing_of c).routine) _ _ (far_head (listing_of c).routine far)
+        ∙ sym (ap (λ (o : Option ℕ). earlier o (fault_of e (made_listing c))) ? ∙ zero_left (fault_of e (made_listing c)))
+  ]
