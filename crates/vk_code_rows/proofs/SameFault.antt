@@ -1,5 +1,5 @@
 -- The first bad part of rows is the earlier one of the first that code can't hold and the first bad one of the code.
-use Rattle.std.proofs.Common.{◌≡◌, ℕ, zero, suc, ◌+◌, ◌-◌, ◌%◌, ◌<◌, ◌≤◌, ltb, min, Bool, true, false, not, ◌&&◌, cond, List, [], ◌∷◌, ◌++◌, length, map, Option, Some, None, is_none, refl, sym, ap, ap₂, ◌∙◌, arith, inl, inr}
+use Rattle.std.proofs.Common.{◌≡◌, ℕ, zero, suc, ◌+◌, ◌-◌, ◌%◌, ◌<◌, ◌≤◌, ltb, min, Bool, true, false, not, ◌&&◌, cond, List, [], ◌∷◌, ◌++◌, length, map, take, get_or, ◌==◌, Option, Some, None, is_none, append-nil, add-one, refl, sym, ap, ap₂, ◌∙◌, arith, inl, inr}
 use Rattle.std.specs.Prelude.{nat_le, nat_lt}
 use Rattle.std.specs.List.{list_all}
 use Rattle.std.specs.Option.{option_map}
@@ -11,9 +11,9 @@ use Rattle.vk_code.specs.declared.instruction.Instr.{Instr}
 use Rattle.vk_code.specs.declared.instruction.Operation.{Operation}
 use Rattle.vk_code.specs.declared.instruction.Operation.TheVariants as op
 use Rattle.vk_code.specs.Instruction.{block_of, operation_of}
-use Rattle.vk_code.specs.Listing.{CallSite, LoopBody, Routine, own, numbered}
-use Rattle.vk_code.specs.Tests.{first_bad, holds}
-use Rattle.vk_code.specs.Valid.{Environment, body_verdicts, fault_of, has_good_counts, has_good_registers, instr_verdicts, is_good_head, is_good_instr, is_good_loop, is_good_routine, is_good_slot, is_result, is_typed, verdicts}
+use Rattle.vk_code.specs.Listing.{CallSite, LoopBody, Routine, SimdSite, own, numbered}
+use Rattle.vk_code.specs.Tests.{all_good, first_bad, holds}
+use Rattle.vk_code.specs.Valid.{Environment, body_regs, body_verdicts, fault_of, has_good_bounds, has_good_captures, has_good_counts, has_good_registers, has_params, instr_verdicts, is_body, is_good_body, is_good_head, is_good_instr, is_good_loop, is_good_routine, is_good_slot, is_result, is_typed, verdicts}
 use Rattle.vk_code.proofs.Faults.{and_left, and_right}
 use Rattle.vk_code_format.specs.declared.rows.ShapeKind.{ShapeKind}
 use Rattle.vk_code_format.specs.declared.rows.ShapeKind.TheVariants.{Vector, Uniform, By, Along, Literal, Same}
@@ -25,7 +25,7 @@ use Rattle.vk_code_format.specs.declared.rows.LoopRow.{LoopRow}
 use Rattle.vk_code_format.specs.declared.rows.RoutineRow.{RoutineRow}
 use Rattle.vk_code_format.specs.declared.rows.SlotRow.{SlotRow}
 use Rattle.vk_code_format.specs.Values.{arg_of, bad_part, body_of, body_has_places, call_of, earlier, has_place, has_places, listing_of, places_verdicts, routine_of, shape_of, site_of}
-use Rattle.vk_code_rows.specs.Made.{has_few_params, is_near_arg, is_near_body, is_near_call, is_near_loop, is_near_shape, made_arg, made_call, made_listing, made_routine, made_shape, made_site, near_verdicts}
+use Rattle.vk_code_rows.specs.Made.{has_few_params, is_near_arg, is_near_body, is_near_call, is_near_loop, is_near_shape, made_arg, made_body, made_call, made_listing, made_routine, made_shape, made_site, near_verdicts}
 
 -- ---- two lists of verdicts
 
@@ -115,10 +115,10 @@ when true false x y e h = absurd (false≢true (sym e))
 when false true x y e h = absurd (false≢true e)
 when false false x y e h = refl
 
-module _ (e : Environment) (r : RoutineRow) (loops : ℕ) (few : nat_le r.front.params 65535 ≡ true) where
-  few_params : min r.front.params 65535 ≡ r.front.params
-  few_params = let le : r.front.params ≤ 65535 = leb-true _ _ few in omega (arith, le)
+few_params : (r : RoutineRow) → has_few_params r ≡ true → min r.front.params 65535 ≡ r.front.params
+few_params r few = let le : r.front.params ≤ 65535 = leb-true _ _ few in omega (arith, le)
 
+module _ (e : Environment) (r : RoutineRow) (loops : ℕ) (few : has_few_params r ≡ true) where
   slot_good : (s : CallSite) → is_good_slot e (routine_of r loops) s ≡ is_good_slot e (made_routine r loops) s
   slot_good s =
       ap (λ (k : ℕ). is_good_slot e (record {
@@ -130,7 +130,7 @@ module _ (e : Environment) (r : RoutineRow) (loops : ℕ) (few : nat_le r.front.
         slots = [];
         loops = loops;
         instrs = r.instrs;
-      }) s) (sym few_params)
+      }) s) (sym (few_params r few))
 
   slot_same : (s : SlotRow) → (has_places (call_of s) && is_good_slot e (routine_of r loops) (call_of s)) ≡ (is_near_call s && is_good_slot e (made_routine r loops) (made_call s))
   slot_same s = when _ _ _ _ (near_args s.args) (λ near. slot_good (call_of s) ∙ ap (is_good_slot e (made_routine r loops)) (sym (call_same s near)))
@@ -161,7 +161,9 @@ fails_first true b h = absurd (false≢true (sym h))
 fails_first false b h = refl
 
 bad_routine : (e : Environment) (c : Routine) → nat_le c.params 65535 ≡ false → is_good_routine e c ≡ false
-bad_routine e c far = fails_first _ _ (fails_first _ _ (far_head c far))
+bad_routine e c far =
+    fails_first (is_good_head c && all_good (map (is_good_slot e c) c.slots)) (all_good (body_verdicts e c))
+    (fails_first (is_good_head c) (all_good (map (is_good_slot e c) c.slots)) (far_head c far))
 
 module _ (e : Environment) (r : RoutineRow) (loops : ℕ) where
   -- a loop's own tests don't speak of the calls of the code that it stands in, nor of its parameters
@@ -176,6 +178,17 @@ module _ (e : Environment) (r : RoutineRow) (loops : ℕ) where
   site_with : LoopRow → BodyRow → LoopRow
   site_with l b = record { simdlen = l.simdlen; low = l.low; high = l.high; captures = l.captures; guards = l.guards; body = b }
 
+  bad_site : (l : LoopRow) (b : RoutineRow) → has_few_params b ≡ false → is_good_loop e (routine_of r loops) (site_of (site_with l (Inline b))) ≡ false
+  unfolding site_with
+  bad_site l b far =
+      let c = routine_of r loops in
+      let x = routine_of b 0 in
+      let s = site_of (site_with l (Inline b)) in
+      let tests = x.lane_code && is_none x.result && (x.loops == 0) && has_params c (body_regs s) x in
+      fails_last (has_good_bounds c s && has_good_captures c s) (is_body e c (body_regs s) (own x))
+      (fails_last (not e.image) (is_good_body e c (body_regs s) x)
+      (fails_last tests (is_good_routine e x) (bad_routine e x far)))
+
   loop_by : (l : LoopRow) (b : BodyRow) → (body_has_places (body_of b) && is_good_loop e (routine_of r loops) (site_of (site_with l b)))
       ≡ (is_near_body b && is_good_loop e (made_routine r loops) (made_site (site_with l b)))
   unfolding site_with
@@ -187,12 +200,22 @@ module _ (e : Environment) (r : RoutineRow) (loops : ℕ) where
             ap (λ (x : Routine). is_good_loop e (routine_of r loops) (record { simdlen = l.simdlen; low = l.low; high = l.high; captures = l.captures; guards = l.guards; body = own x })) body
             ∙ site_good (site_with l (Inline b))))
     | inr far ↦
-        fails_last _ _ (fails_last _ _ (fails_last _ _ (fails_last _ _ (bad_routine e (routine_of b 0) far))))
-        ∙ sym (fails_first _ _ (fails_first _ _ far))
+        fails_last (body_has_places (body_of (Inline b))) (is_good_loop e (routine_of r loops) (site_of (site_with l (Inline b)))) (bad_site l b far)
+        ∙ sym (fails_first (is_near_body (Inline b)) (is_good_loop e (made_routine r loops) (made_site (site_with l (Inline b)))) (fails_first (has_few_params b) (list_all is_near_call b.front.slots) far))
   ]
     where
       body_same : (b : RoutineRow) → has_few_params b ≡ true → list_all is_near_call b.front.slots ≡ true → routine_of b 0 ≡ made_routine b 0
-      body_same b few near = ?
+      body_same b few near =
+          ap₂ (λ (k : ℕ) (slots : List CallSite). record {
+            lane_code = b.front.lane_code;
+            params = k;
+            result = b.front.result;
+            regs = b.front.regs;
+            masks = b.front.masks;
+            slots = slots;
+            loops = 0;
+            instrs = b.instrs;
+          }) (sym (few_params b few)) (sym (calls_same b.front.slots near))
 
   loop_same : (l : LoopRow) → (body_has_places (site_of l).body && is_good_loop e (routine_of r loops) (site_of l)) ≡ (is_near_loop l && is_good_loop e (made_routine r loops) (made_site l))
   unfolding site_with
@@ -228,22 +251,28 @@ holds_same p q same (Some x) = same x
 instr_same : (e : Environment) (r : RoutineRow) (loops : ℕ) (i : Instr) → is_good_instr e (routine_of r loops) i ≡ is_good_instr e (made_routine r loops) i
 instr_same e r loops i = ap (λ b. nat_lt i.m r.front.masks && b) (holds_same _ _ (typed_same e r loops) (operation_of i))
 
-instrs_same : (e : Environment) (c d : Routine) → ((i : Instr) → is_good_instr e c i ≡ is_good_instr e d i) → (room : ℕ) (is : List Instr) (skip count : ℕ)
-    → instr_verdicts e c room is skip count ≡ instr_verdicts e d room is skip count
-instrs_same e c d same room [] skip count = refl
-instrs_same e c d same room (i ∷ is) (suc skip) count = instrs_same e c d same room is skip count
-instrs_same e c d same room (i ∷ is) zero zero = refl
-instrs_same e c d same room (i ∷ is) zero (suc n) = by_block (block_of i)
-  where
-    by_block : (o : Option ℕ) → elim o as (λ _. List Bool) [
+-- what is behind an instruction that begins a block, or none
+behind_same : (e : Environment) (c d : Routine) (i : Instr) (room : ℕ) (is : List Instr) (n : ℕ) → is_good_instr e c i ≡ is_good_instr e d i
+    → ((room skip count : ℕ) → instr_verdicts e c room is skip count ≡ instr_verdicts e d room is skip count) → (o : Option ℕ)
+    → elim o as (λ _. List Bool) [
       | None ↦ is_good_instr e c i ∷ instr_verdicts e c room is zero n
       | Some x ↦ (is_good_instr e c i && nat_le x n && nat_lt 0 room) ∷ (instr_verdicts e c (room - 1) is zero x ++ instr_verdicts e c room is x (n - x))
     ] ≡ elim o as (λ _. List Bool) [
       | None ↦ is_good_instr e d i ∷ instr_verdicts e d room is zero n
       | Some x ↦ (is_good_instr e d i && nat_le x n && nat_lt 0 room) ∷ (instr_verdicts e d (room - 1) is zero x ++ instr_verdicts e d room is x (n - x))
     ]
-    by_block None = rw (same i, instrs_same e c d same room is zero n) refl
-    by_block (Some x) = rw (same i, instrs_same e c d same (room - 1) is zero x, instrs_same e c d same room is x (n - x)) refl
+behind_same e c d i room is n same later None = ap₂ (λ (b : Bool) (bs : List Bool). b ∷ bs) same (later room zero n)
+behind_same e c d i room is n same later (Some x) =
+    ap₂ (λ (b : Bool) (bs : List Bool). b ∷ bs) (ap (λ b. b && nat_le x n && nat_lt 0 room) same)
+    (ap₂ (λ (bs cs : List Bool). bs ++ cs) (later (room - 1) zero x) (later room x (n - x)))
+
+instrs_same : (e : Environment) (c d : Routine) → ((i : Instr) → is_good_instr e c i ≡ is_good_instr e d i) → (room : ℕ) (is : List Instr) (skip count : ℕ)
+    → instr_verdicts e c room is skip count ≡ instr_verdicts e d room is skip count
+instrs_same e c d same room [] skip count = refl
+instrs_same e c d same room (i ∷ is) (suc skip) count = instrs_same e c d same room is skip count
+instrs_same e c d same room (i ∷ is) zero zero = refl
+instrs_same e c d same room (i ∷ is) zero (suc n) =
+    behind_same e c d i room is n (same i) (λ room skip count. instrs_same e c d same room is skip count) (block_of i)
 
 -- ---- the code
 
@@ -252,15 +281,40 @@ unfolding both
 first_of_both a b ps vs h = rw (fails_last a b h) refl
 
 module _ (e : Environment) (c : CodeRow) where
+  head_same : has_few_params c.routine ≡ true → is_good_head (listing_of c).routine ≡ is_good_head (made_listing c).routine
+  head_same few =
+      ap₂ (λ (k n : ℕ).
+      nat_le 1 c.routine.front.masks && nat_le (length c.routine.front.regs + c.routine.front.masks) 8192 && nat_le k (length c.routine.front.regs)
+      && is_result (length c.routine.front.regs) c.routine.front.result
+      && (nat_le n 65535 && nat_le (length c.loops) 65535 && nat_le (length c.routine.instrs) 4294967295)
+      && list_all (λ t. nat_lt (ctype_number t) 24) c.routine.front.regs)
+      (sym (few_params c.routine few)) (length-map c.routine.front.slots call_of ∙ sym (length-map c.routine.front.slots made_call))
+
+  body_same : body_verdicts e (listing_of c).routine ≡ body_verdicts e (made_listing c).routine
+  body_same =
+      instrs_same e (listing_of c).routine (made_listing c).routine (instr_same e c.routine (length c.loops)) 64 c.routine.instrs zero (length c.routine.instrs)
+
+  -- loops, and then the instructions
+  loops_same : both (map (λ l. body_has_places l.body) (map site_of c.loops)) (map (is_good_loop e (listing_of c).routine) (map site_of c.loops) ++ body_verdicts e (listing_of c).routine)
+      ≡ both (map is_near_loop c.loops) (map (is_good_loop e (made_listing c).routine) (map made_site c.loops) ++ body_verdicts e (made_listing c).routine)
+  unfolding both
+  loops_same =
+      let r = (listing_of c).routine in
+      let m = (made_listing c).routine in
+      ap₂ both (sym (append-nil (map (λ l. body_has_places l.body) (map site_of c.loops)))) refl
+      ∙ agree (λ (l : SimdSite). body_has_places l.body) (is_good_loop e r) site_of is_near_loop (is_good_loop e m) made_site (loop_same e c.routine (length c.loops)) c.loops
+      [] (body_verdicts e r) [] (body_verdicts e m) body_same
+      ∙ ap₂ both (append-nil (map is_near_loop c.loops)) refl
+
   verdicts_same : has_few_params c.routine ≡ true → both (places_verdicts (listing_of c)) (verdicts e (listing_of c)) ≡ both (near_verdicts c) (verdicts e (made_listing c))
   unfolding both
   verdicts_same few =
-      let n = length c.loops in
-      let r = routine_of c.routine n in
-      let m = made_routine c.routine n in
-      ap₂ (λ (b : Bool) (bs : List Bool). b ∷ bs) ?
-      (agree has_places (is_good_slot e r) call_of is_near_call (is_good_slot e m) made_call (slot_same e c.routine n few) c.routine.front.slots _ _ _ _
-      ?)
+      let r = (listing_of c).routine in
+      let m = (made_listing c).routine in
+      ap₂ (λ (b : Bool) (bs : List Bool). b ∷ bs) (ap₂ (λ a b. a && b) (sym few) (head_same few))
+      (agree has_places (is_good_slot e r) call_of is_near_call (is_good_slot e m) made_call (slot_same e c.routine (length c.loops) few) c.routine.front.slots
+      (map (λ l. body_has_places l.body) (map site_of c.loops)) (map (is_good_loop e r) (map site_of c.loops) ++ body_verdicts e r)
+      (map is_near_loop c.loops) (map (is_good_loop e m) (map made_site c.loops) ++ body_verdicts e m) loops_same)
 
   pub bad_same : bad_part e (listing_of c) ≡ earlier (first_bad (near_verdicts c)) (fault_of e (made_listing c))
   bad_same = elim (cases_Bool (has_few_params c.routine)) [
@@ -269,7 +323,27 @@ module _ (e : Environment) (c : CodeRow) where
         ∙ ap first_bad (verdicts_same few)
         ∙ sym (earlier_is (near_verdicts c) (verdicts e (made_listing c)))
     | inr far ↦
+        let slots = map is_near_call c.routine.front.slots ++ map is_near_loop c.loops in
         earlier_is (places_verdicts (listing_of c)) (verdicts e (listing_of c))
-        ∙ first_of_both true (is_good_head (listing_of c).routine) _ _ (far_head (listing_of c).routine far)
-        ∙ sym (ap (λ (o : Option ℕ). earlier o (fault_of e (made_listing c))) ? ∙ zero_left (fault_of e (made_listing c)))
+        ∙ first_of_both true (is_good_head (listing_of c).routine) (map has_places (listing_of c).routine.slots ++ map (λ l. body_has_places l.body) (listing_of c).loops)
+          (map (is_good_slot e (listing_of c).routine) (listing_of c).routine.slots ++ (map (is_good_loop e (listing_of c).routine) (listing_of c).loops ++ body_verdicts e (listing_of c).routine))
+          (far_head (listing_of c).routine far)
+        ∙ sym (ap (λ (b : Bool). earlier (cond b (option_map (λ n. n + 1) (first_bad slots)) (Some 0)) (fault_of e (made_listing c))) far ∙ zero_left (fault_of e (made_listing c)))
   ]
+
+-- ---- one list
+
+-- all before place i pass and that at i does not
+pub first_at : {A : Type 0} (p : A → Bool) (xs : List A) (i : ℕ) (d : A) → i < length xs → list_all p (take i xs) ≡ true → p (get_or xs i d) ≡ false → first_bad (map p xs) ≡ Some i
+first_at p [] i d inside h b = absurd (omega (arith, inside))
+first_at p (x ∷ xs) zero d inside h b = ap (λ v. cond v (option_map (λ n. n + 1) (first_bad (map p xs))) (Some 0)) b
+first_at p (x ∷ xs) (suc i) d inside h b =
+    ap (λ v. cond v (option_map (λ n. n + 1) (first_bad (map p xs))) (Some 0)) (and_left (p x) (list_all p (take i xs)) h)
+    ∙ (ap (option_map (λ n. n + 1)) (first_at p xs i d (omega (arith, inside)) (and_right (p x) (list_all p (take i xs)) h) b)
+    ∙ ap Some (add-one i))
+
+pub first_nowhere : {A : Type 0} (p : A → Bool) (xs : List A) → list_all p xs ≡ true → first_bad (map p xs) ≡ None
+first_nowhere p [] h = refl
+first_nowhere p (x ∷ xs) h =
+    ap (λ v. cond v (option_map (λ n. n + 1) (first_bad (map p xs))) (Some 0)) (and_left (p x) (list_all p xs) h)
+    ∙ ap (option_map (λ n. n + 1)) (first_nowhere p xs (and_right (p x) (list_all p xs) h))

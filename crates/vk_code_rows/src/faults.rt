@@ -1,6 +1,6 @@
 // The first bad part of code.
 
-ghost use Rattle.std.specs.Prelude.{◌≡◌, map, IfOk};
+ghost use Rattle.std.specs.Prelude.{◌≡◌, ◌<◌, length, map, IfOk, IfSome};
 ghost use Rattle.std.specs.List.{list_all};
 ghost use Rattle.vk_code.specs.Tests.{first_bad};
 ghost use Rattle.vk_code.specs.Valid.{environment_of, fault_of};
@@ -58,16 +58,28 @@ fn is_near_loop(row: &LoopRow) -> bool
 
 // The first slot that code can't hold.
 fn far_slot(rows: &[SlotRow]) -> Option<usize>
-    ensures { result ≡ first_bad (map is_near_call rows.now) }
+    ensures first { result ≡ first_bad (map is_near_call rows.now) }
+    ensures inside { IfSome result (λ at. at < length rows.now) }
 {
-    rows.iter().position(|row| !is_near_call(row))
+    for at in 0..rows.len() {
+        if !is_near_call(&rows[at]) {
+            return Some(at);
+        }
+    }
+    None
 }
 
 // The first loop that code can't hold.
 fn far_loop(rows: &[LoopRow]) -> Option<usize>
-    ensures { result ≡ first_bad (map is_near_loop rows.now) }
+    ensures first { result ≡ first_bad (map is_near_loop rows.now) }
+    ensures inside { IfSome result (λ at. at < length rows.now) }
 {
-    rows.iter().position(|row| !is_near_loop(row))
+    for at in 0..rows.len() {
+        if !is_near_loop(&rows[at]) {
+            return Some(at);
+        }
+    }
+    None
 }
 
 // The first part that code can't hold.
@@ -78,10 +90,12 @@ fn far_part(row: &CodeRow) -> Option<usize>
         return Some(0);
     }
     let slots = row.routine.front.slots.as_slice();
-    if let Some(at) = far_slot(slots) {
-        return Some(at + 1);
+    match far_slot(slots) {
+        Some(at) => return Some(at + 1),
+        None => {}
     }
-    match far_loop(row.loops.as_slice()) {
+    let loops = row.loops.as_slice();
+    match far_loop(loops) {
         Some(at) => Some(at + slots.len() + 1),
         None => None,
     }

@@ -9,7 +9,8 @@ use Rattle.vk_code.specs.Listing.{Listing}
 use Rattle.vk_code.specs.Tests.{all_good, first_bad}
 use Rattle.vk_code.specs.Valid.{fault_of, verdicts}
 use Rattle.vk_code.proofs.Faults.{and_left, and_right, everywhere}
-use Rattle.vk_object.specs.Objects.{FunctionLists, ObjectLists, are_codes, has_codes, has_good_codes, has_types, is_code_for, is_function, is_object, is_simd, is_used_once, names_of}
+use Rattle.vk_object.specs.Objects.{FunctionLists, ObjectLists, are_codes, has_codes, has_good_codes, has_types, is_code_for, is_function, is_object, is_simd, is_used_once, function_before, names_of}
+use Rattle.vk_object.specs.Texts.{ascend}
 use Rattle.vk_format.specs.declared.rules.ObjectFault.{ObjectFault}
 use Rattle.vk_code_format.specs.declared.rows.CodeRow.{CodeRow}
 use Rattle.vk_code_format.specs.Fields.{first_along, or_else, unless}
@@ -105,7 +106,7 @@ pub tables_whole : (o : RawObject) (end : ℕ) → has_rows (object_of o) ≡ tr
 tables_whole o end rows h =
     let symbols = first_along symbol_length (symbol_fault o) 0 symbols_at o.symbols in
     let functions = first_along (function_length o) (function_fault o) 0 (functions_at o) o.functions in
-    let all_functions = ? in
+    let all_functions = and_right _ (list_all (is_function (object_of o)) (map function_of o.functions)) (and_left _ (ascend function_before (map function_of o.functions)) rows) in
     and_true _ _ (and_true _ _ rows (used o o.symbols 0 symbols_at (or_first symbols functions h)))
     (functions_good o o.functions 0 (functions_at o) all_functions (or_second symbols functions h))
 

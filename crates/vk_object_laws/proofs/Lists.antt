@@ -74,12 +74,12 @@ list_all-push p (y ∷ ys) x h =
 
 module _ {A B : Type 0} (f : A → B) (share : B → B → Bool) where
   -- no member shares with a later one
-  pub apart : List B → Bool
+  abbrev pub apart : List B → Bool
   apart [] = true
   apart (x ∷ xs) = not (list_any (share x) xs) && apart xs
 
   -- none of these shares with one of the others
-  none_shares : List A → List A → Bool
+  pub none_shares : List A → List A → Bool
   none_shares before xs = list_all (λ e. not (list_any (share (f e)) (map f xs))) before
 
   joined : (x : A) (xs before : List A) → not (list_any (λ e. share (f e) (f x)) before) ≡ true → none_shares before xs ≡ true → none_shares before (x ∷ xs) ≡ true
@@ -101,8 +101,8 @@ module _ {A B : Type 0} (f : A → B) (share : B → B → Bool) where
       second_not false b h = h
 
   module _ {R : Type 0} (c : List A → Codec R A) (step : (before : List A) (x : A) → (c before).fits x → not (list_any (λ e. share (f e) (f x)) before) ≡ true) where
-    all_apart : (before xs : List A) → FitAfter c before xs → (none_shares before xs ≡ true) × (apart (map f xs) ≡ true)
-    unfolding apart none_shares
+    pub all_apart : (before xs : List A) → FitAfter c before xs → (none_shares before xs ≡ true) × (apart (map f xs) ≡ true)
+    unfolding none_shares
     all_apart before [] h = (nothing before, refl)
       where
         nothing : (es : List A) → list_all (λ e. not (list_any (share (f e)) [])) es ≡ true

@@ -2,4 +2,4 @@ use Rattle.vk_object_laws.proofs.Ends.{tables_object}
 use Rattle.vk_object_laws.proofs.laws.tables.Goals as goal
 
 pub returns : goal.returns
-returns c = tables_object
+returns c = record { object = tables_object }
