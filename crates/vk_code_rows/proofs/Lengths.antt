@@ -18,7 +18,7 @@ use Rattle.vk_code_format.specs.declared.rows.FrontRow.{FrontRow}
 use Rattle.vk_code_format.specs.declared.rows.LoopRow.{LoopRow}
 use Rattle.vk_code_format.specs.declared.rows.RoutineRow.{RoutineRow}
 use Rattle.vk_code_format.specs.declared.rows.SlotRow.{SlotRow}
-use Rattle.vk_code_format.specs.Codes.{Place, in_object, in_image, argument, body_bytes, code, front, guard, instr_bytes, instructions, loop_site, parameter_count, routine, slot}
+use Rattle.vk_code_format.specs.Codes.{Place, in_object, in_image, argument, body_bytes, front, guard, instr_bytes, instructions, loop_site, parameter_count, routine, slot}
 use Rattle.vk_code_format.specs.Fields.{value_type}
 use Rattle.vk_code_format.specs.Places.{code_length, instrs_at, length_of, part_at, slots_at}
 use Rattle.vk_code_rows.specs.Sums.{before_instrs, before_part, body_size, front_head, front_size, loop_size, routine_size, slot_head, slot_size, slots_size}

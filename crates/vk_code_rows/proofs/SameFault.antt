@@ -1,5 +1,5 @@
 -- The first bad part of rows is the earlier one of the first that code can't hold and the first bad one of the code.
-use Rattle.std.proofs.Common.{◌≡◌, ℕ, zero, suc, ◌+◌, ◌-◌, ◌%◌, ◌<◌, ◌≤◌, ltb, min, Bool, true, false, not, ◌&&◌, cond, List, [], ◌∷◌, ◌++◌, length, map, take, get_or, ◌==◌, Option, Some, None, is_none, append-nil, add-one, refl, sym, ap, ap₂, ◌∙◌, arith, inl, inr}
+use Rattle.std.proofs.Common.{◌≡◌, ℕ, zero, suc, ◌+◌, ◌-◌, ◌%◌, ◌<◌, ◌≤◌, min, Bool, true, false, not, ◌&&◌, cond, List, [], ◌∷◌, ◌++◌, length, map, take, get_or, ◌==◌, Option, Some, None, is_none, append-nil, add-one, refl, sym, ap, ap₂, ◌∙◌, arith, inl, inr}
 use Rattle.std.specs.Prelude.{nat_le, nat_lt}
 use Rattle.std.specs.List.{list_all}
 use Rattle.std.specs.Option.{option_map}
@@ -14,7 +14,7 @@ use Rattle.vk_code.specs.Instruction.{block_of, operation_of}
 use Rattle.vk_code.specs.Listing.{CallSite, LoopBody, Routine, SimdSite, own, numbered}
 use Rattle.vk_code.specs.Tests.{all_good, first_bad, holds}
 use Rattle.vk_code.specs.Valid.{Environment, body_regs, body_verdicts, fault_of, has_good_bounds, has_good_captures, has_good_counts, has_good_registers, has_params, instr_verdicts, is_body, is_good_body, is_good_head, is_good_instr, is_good_loop, is_good_routine, is_good_slot, is_result, is_typed, verdicts}
-use Rattle.vk_code.proofs.Faults.{and_left, and_right}
+use Rattle.vk_code.proofs.Faults.{and_left, and_right, everywhere}
 use Rattle.vk_code_format.specs.declared.rows.ShapeKind.{ShapeKind}
 use Rattle.vk_code_format.specs.declared.rows.ShapeKind.TheVariants.{Vector, Uniform, By, Along, Literal, Same}
 use Rattle.vk_code_format.specs.declared.rows.ArgRow.{ArgRow}
@@ -149,6 +149,19 @@ far_head c far = elim (cases_Bool (is_good_head c)) [
   | inr bad ↦ bad
 ]
 
+routine_same : (b : RoutineRow) (loops : ℕ) → has_few_params b ≡ true → list_all is_near_call b.front.slots ≡ true → routine_of b loops ≡ made_routine b loops
+routine_same b loops few near =
+    ap₂ (λ (k : ℕ) (slots : List CallSite). record {
+      lane_code = b.front.lane_code;
+      params = k;
+      result = b.front.result;
+      regs = b.front.regs;
+      masks = b.front.masks;
+      slots = slots;
+      loops = loops;
+      instrs = b.instrs;
+    }) (sym (few_params b few)) (sym (calls_same b.front.slots near))
+
 -- ---- loops
 
 -- one test of several fails
@@ -196,9 +209,9 @@ module _ (e : Environment) (r : RoutineRow) (loops : ℕ) where
   loop_by l (Inline b) = elim (cases_Bool (has_few_params b)) [
     | inl few ↦
         rw few (when _ _ _ _ (near_calls b.front.slots) (λ near.
-            let body : routine_of b 0 ≡ made_routine b 0 = body_same b few near in
-            ap (λ (x : Routine). is_good_loop e (routine_of r loops) (record { simdlen = l.simdlen; low = l.low; high = l.high; captures = l.captures; guards = l.guards; body = own x })) body
-            ∙ site_good (site_with l (Inline b))))
+        let body : routine_of b 0 ≡ made_routine b 0 = body_same b few near in
+        ap (λ (x : Routine). is_good_loop e (routine_of r loops) (record { simdlen = l.simdlen; low = l.low; high = l.high; captures = l.captures; guards = l.guards; body = own x })) body
+        ∙ site_good (site_with l (Inline b))))
     | inr far ↦
         fails_last (body_has_places (body_of (Inline b))) (is_good_loop e (routine_of r loops) (site_of (site_with l (Inline b)))) (bad_site l b far)
         ∙ sym (fails_first (is_near_body (Inline b)) (is_good_loop e (made_routine r loops) (made_site (site_with l (Inline b)))) (fails_first (has_few_params b) (list_all is_near_call b.front.slots) far))
@@ -326,10 +339,44 @@ module _ (e : Environment) (c : CodeRow) where
         let slots = map is_near_call c.routine.front.slots ++ map is_near_loop c.loops in
         earlier_is (places_verdicts (listing_of c)) (verdicts e (listing_of c))
         ∙ first_of_both true (is_good_head (listing_of c).routine) (map has_places (listing_of c).routine.slots ++ map (λ l. body_has_places l.body) (listing_of c).loops)
-          (map (is_good_slot e (listing_of c).routine) (listing_of c).routine.slots ++ (map (is_good_loop e (listing_of c).routine) (listing_of c).loops ++ body_verdicts e (listing_of c).routine))
-          (far_head (listing_of c).routine far)
+        (map (is_good_slot e (listing_of c).routine) (listing_of c).routine.slots ++ (map (is_good_loop e (listing_of c).routine) (listing_of c).loops ++ body_verdicts e (listing_of c).routine))
+        (far_head (listing_of c).routine far)
         ∙ sym (ap (λ (b : Bool). earlier (cond b (option_map (λ n. n + 1) (first_bad slots)) (Some 0)) (fault_of e (made_listing c))) far ∙ zero_left (fault_of e (made_listing c)))
   ]
+
+-- ---- code that can hold all numbers
+
+near_body : (b : BodyRow) → is_near_body b ≡ true → made_body b ≡ body_of b
+near_body (Number n) h = refl
+near_body (Inline b) h = ap own (sym (routine_same b 0 (and_left _ _ h) (and_right (has_few_params b) (list_all is_near_call b.front.slots) h)))
+
+near_loops : (ls : List LoopRow) → list_all is_near_loop ls ≡ true → map made_site ls ≡ map site_of ls
+near_loops [] h = refl
+near_loops (l ∷ ls) h =
+    ap₂ (λ (s : SimdSite) (ss : List SimdSite). s ∷ ss)
+    (ap (λ b. record { simdlen = l.simdlen; low = l.low; high = l.high; captures = l.captures; guards = l.guards; body = b }) (near_body l.body (and_left _ _ h)))
+    (near_loops ls (and_right (is_near_loop l) (list_all is_near_loop ls) h))
+
+all_near : {A : Type 0} (p : A → Bool) (xs : List A) → all_good (map p xs) ≡ true → list_all p xs ≡ true
+all_near p [] h = refl
+all_near p (x ∷ xs) h = ap₂ (λ a b. a && b) (and_left (p x) (all_good (map p xs)) h) (all_near p xs (and_right (p x) (all_good (map p xs)) h))
+
+split_good : (us vs : List Bool) → all_good (us ++ vs) ≡ true → (all_good us ≡ true) × (all_good vs ≡ true)
+split_good [] vs h = (refl, h)
+split_good (u ∷ us) vs h =
+    let rest = split_good us vs (and_right u (all_good (us ++ vs)) h) in
+    (ap₂ (λ a b. a && b) (and_left u (all_good (us ++ vs)) h) rest.0, rest.1)
+
+-- it is what the row stands for
+pub near_listing : (c : CodeRow) → first_bad (near_verdicts c) ≡ None → made_listing c ≡ listing_of c
+near_listing c h =
+    let all = everywhere (near_verdicts c) h in
+    let slots = map is_near_call c.routine.front.slots in
+    let loops = map is_near_loop c.loops in
+    let parts = split_good slots loops (and_right (has_few_params c.routine) (all_good (slots ++ loops)) all) in
+    ap₂ (λ (r : Routine) (ls : List SimdSite). record { routine = r; loops = ls })
+    (sym (routine_same c.routine (length c.loops) (and_left (has_few_params c.routine) (all_good (slots ++ loops)) all) (all_near is_near_call c.routine.front.slots parts.0)))
+    (near_loops c.loops (all_near is_near_loop c.loops parts.1))
 
 -- ---- one list
 

@@ -2,6 +2,7 @@
 
 ghost use Rattle.std.specs.Prelude.{◌≡◌, ◌<◌, length, map, IfOk, IfSome};
 ghost use Rattle.std.specs.List.{list_all};
+ghost use Rattle.vk_code.specs.Listing.{listing_of as code_listing};
 ghost use Rattle.vk_code.specs.Tests.{first_bad};
 ghost use Rattle.vk_code.specs.Valid.{environment_of, fault_of};
 ghost use Rattle.vk_code_format.specs.Values.{bad_part, earlier, listing_of};
@@ -9,7 +10,7 @@ ghost use Rattle.vk_code_rows.specs.Made.{has_few_params, is_near_arg, is_near_b
 
 use crate::make::code_of;
 use std::alloc::Global;
-use vk_code::{CodeFault, Env, validate};
+use vk_code::{Code, CodeFault, Env, validate};
 use vk_code_format::{ArgRow, BodyRow, CodeRow, LoopRow, RoutineRow, ShapeKind, SlotRow};
 use vk_memory::Memory;
 
@@ -131,4 +132,14 @@ pub fn bad_part(alloc: Global, env: &Env, row: &CodeRow) -> Result<Option<usize>
 {
     let bad = bad_made(alloc, env, row)?;
     Ok(earlier(far_part(row), bad))
+}
+
+/// The code that the row stands for. Want of memory is the answer too where code can't hold its numbers: then it is not valid.
+pub fn exact_code_of(alloc: Global, row: &CodeRow) -> Result<Code, Memory>
+    ensures { IfOk result (λ code. code_listing code ≡ listing_of row.now) }
+{
+    match far_part(row) {
+        Some(_) => Err(Memory),
+        None => code_of(alloc, row),
+    }
 }

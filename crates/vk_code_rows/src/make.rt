@@ -78,8 +78,8 @@ fn slots_of(alloc: Global, rows: &[SlotRow]) -> Result<Vec<Slot>, Memory>
 // The code of a row with these loops.
 fn routine_of(alloc: Global, row: &RoutineRow, loops: Vec<LoopSite>) -> Result<Code, Memory>
     ensures { IfOk result (λ code. listing_of code ≡ record {
-        routine = made_routine row.now (length loops.items);
-        loops = map simd_site_of loops.items;
+      routine = made_routine row.now (length loops.items);
+      loops = map simd_site_of loops.items;
     }) }
 {
     let regs = Vec::from_slice(alloc, row.front.regs.as_slice())?;
