@@ -1,6 +1,6 @@
 // An object that comes in pieces.
 
-ghost use Rattle.std.specs.Prelude.{◌≡◌, ◌<◌, ℕ, [], List, None, OnOk, IfErr, length};
+ghost use Rattle.std.specs.Prelude.{◌≡◌, ℕ, List, None, OnOk, IfErr};
 ghost use Rattle.vk_format.specs.Bytes.{IsBytes};
 ghost use Rattle.vk_object_feed.specs.Feeds.{TellsFail, onward};
 ghost use Rattle.vk_object_codec.specs.Fields.{Came, IsJudged, judged};
@@ -21,7 +21,7 @@ pub struct ObjectFeed {
     pub(crate) fields: PendingFields,
     pub(crate) failed: Option<ObjectFail>,
     ghost came: { failed ≡ None → Came fields },
-    ghost judged: { failed ≡ None → IsJudged fields },
+    ghost settled: { failed ≡ None → IsJudged fields },
 }
 
 // Each byte of a piece is a number below 256: reading them shows it.
@@ -35,7 +35,6 @@ fn know_bytes(piece: &[u8])
 
 // What is judged where all fields have come.
 fn settle(alloc: Global, fields: &PendingFields) -> Result<(), ObjectFail>
-    requires empty { fields.now.pending.items ≡ [] }
     ensures judged { OnOk result (IsJudged fields.now) }
     ensures err { IfErr result (λ e. (more : List ℕ) → TellsFail e (onward fields.now judged more)) }
 {

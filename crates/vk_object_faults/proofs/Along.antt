@@ -1,5 +1,5 @@
 -- Members one after the other, from a place on: a loop over them finds the first fault.
-use Rattle.std.proofs.Common.{◌≡◌, ℕ, suc, ◌+◌, ◌<◌, ◌≤◌, Bool, true, false, List, [], ◌∷◌, length, take, drop, get_or, Option, Some, None, refl, ap, sym, ◌∙◌, subst, arith, add-one}
+use Rattle.std.proofs.Common.{◌≡◌, ℕ, zero, suc, min, ◌+◌, ◌<◌, ◌≤◌, Bool, true, false, List, [], ◌∷◌, length, take, drop, get_or, Option, Some, None, refl, ap, sym, ◌∙◌, subst, arith, add-one}
 use Rattle.std.specs.Prelude.{is_some}
 use Rattle.std.specs.List.{sum_by}
 use Rattle.std.proofs.Math.Seq.{drop-cons}
@@ -70,6 +70,19 @@ module _ {A : Type 0} (size : A → ℕ) (faults : ℕ → ℕ → A → Option 
   -- all members have none
   pub ends : (i place : ℕ) → length xs ≤ i → Going i place → None ≡ place_told (first_along size faults n p xs)
   ends i place all g = ap place_told (sym (g.onward ∙ ap (first_along size faults (n + i) (place_of_member i)) (drop_all i xs all)))
+
+-- an item inside a list is there whatever stands for those past its end
+default_free : {A : Type 0} (xs : List A) (i : ℕ) (d e : A) → i < length xs → get_or xs i d ≡ get_or xs i e
+default_free [] i d e h = absurd (omega (arith, h))
+default_free (x ∷ xs) zero d e h = refl
+default_free (x ∷ xs) (suc i) d e h = default_free xs i d e (omega (arith, h))
+
+pub same_item : {A : Type 0} (xs : List A) (i : ℕ) (x y : A) → i < length xs → x ≡ get_or xs i x → y ≡ get_or xs i y → x ≡ y
+same_item xs i x y h e f = e ∙ default_free xs i x y h ∙ sym f
+
+-- sums that stay at the greatest number
+pub sum_told : (a b r p q : ℕ) → a ≡ capped p → b ≡ capped q → r ≡ min (a + b) 18446744073709551615 → r ≡ capped (p + q)
+sum_told a b r p q h k e = omega (arith, h, k, e)
 
 pub none_by : (o : Option ObjectFault) (told : Option ℕ) → told ≡ place_told o → is_some told ≡ false → o ≡ None
 none_by None told e h = refl

@@ -1,3 +1,4 @@
-pub mod Sums
-pub mod Uses
 pub mod Along
+pub mod Codes
+pub mod Ends
+pub mod Uses

@@ -24,7 +24,7 @@ pub struct PendingFields {
 
 // Fields of which none has come.
 fn no_fields(alloc: Global) -> ObjectFields
-    ensures start { (next : Next) → fields_left result 0 next ≡ all_fields next }
+    ensures { (next : Next) → fields_left result 0 next ≡ all_fields next }
 {
     ObjectFields::new::<RawObject>(alloc)
 }

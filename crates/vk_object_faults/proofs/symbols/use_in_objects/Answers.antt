@@ -4,7 +4,7 @@ use Rattle.vk_object_format.specs.declared.rows.RawData.{RawData}
 use Rattle.vk_object_faults.proofs.symbols.use_in_objects.Goals as goal
 
 pub loop-at-init : goal.loop-at-init
-loop-at-init c = λ n h. let word = c.requires n h in omega (arith, word)
+loop-at-init c = λ n h. let word = c.requires.words n h in omega (arith, word)
 
 pub loop-at-preserved : goal.loop-at-preserved
 loop-at-preserved c = λ n h.
@@ -12,5 +12,5 @@ loop-at-preserved c = λ n h.
     let step = c.use_symbol.ensures n inside in
     let before = c.loop-at.invariant n inside in
     let more = sum_by_more (λ (d : RawData). cond (d.symbol == n) 1 0) c.args.objects.now c.loop-at.at c.index-objects-at.result (omega arith) in
-    let item = ap (λ (d : RawData). cond (d.symbol == n) 1 0) c.index-objects-at.is in
+    let item = ap {B = ℕ} (λ (d : RawData). cond (d.symbol == n) 1 0) c.index-objects-at.is in
     omega (arith, step, before, more, item)
