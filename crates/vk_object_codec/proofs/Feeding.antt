@@ -52,6 +52,21 @@ pub came_more : (f g : PendingFields) (bytes : List ℕ) → IsBytes bytes → (
 came_more f g bytes are goes came = λ none. came (λ before past taken. none (before ++ bytes) (both_at before bytes past are)
     (λ rest. ap (advance (all_fields tables) 0) (append_assoc before bytes rest) ∙ taken (bytes ++ rest) ∙ goes rest))
 
+-- what comes to what is wanted goes on as that does
+pub goes_with : (f g : PendingFields) (bytes : List ℕ) (next : Next) → onward f next bytes ≡ wanted_now g next → (rest : List ℕ) → onward f next (bytes ++ rest) ≡ onward g next rest
+unfolding more
+goes_with f g bytes next h rest =
+    ap (advance (fields_left f.fields f.at next) f.at) (sym (append_assoc f.pending.items bytes rest))
+    ∙ advance_more (fields_left f.fields f.at next) f.at (f.pending.items ++ bytes) rest
+    ∙ ap (λ l. more l rest) h
+
+pub came_kept : (f g : PendingFields) (bytes : List ℕ) → IsBytes bytes → ((next : Next) → onward f next bytes ≡ wanted_now g next) → Came f → Came g
+came_kept f g bytes are h came = came_more f g bytes are (goes_with f g bytes tables (h tables)) came
+
+-- the fields alone tell whether they were judged
+pub judged_same : (f g : PendingFields) → g.fields ≡ f.fields → IsJudged f → IsJudged g
+judged_same f g e h = subst (λ (x : ObjectFields). x.stage ≡ objects.Done → is_none (object_faults x.object 0) ≡ true) (sym e) h
+
 -- ---- all fields have come
 
 module _ (f : PendingFields) (done : f.fields.stage ≡ objects.Done) where
@@ -65,6 +80,24 @@ module _ (f : PendingFields) (done : f.fields.stage ≡ objects.Done) where
 
   pub none_pending : f.pending.items ≡ []
   none_pending = let width : fields_width f.fields ≡ 0 = done_width in nil_from_length f.pending.items (omega (arith, f.fits, width))
+
+is_whole : Format RawObject → Bool
+is_whole (Field width next) = false
+is_whole (Refused at rule) = false
+is_whole (Whole o) = true
+
+first_field : is_whole (advance (all_fields tables) 0 []).format ≡ false
+unfolding advance all_fields is_whole
+first_field = refl
+
+whole_is : (o : RawObject) → is_whole (Whole o) ≡ true
+unfolding is_whole
+whole_is o = refl
+
+-- where no byte has come some field is wanted
+pub fresh_judged : (f : PendingFields) → ((next : Next) → HasTaken f [] next) → IsJudged f
+fresh_judged f h = λ done.
+    absurd (false≢true (sym first_field ∙ ap (λ l. is_whole l.format) (h tables) ∙ ap is_whole (done_left f done tables) ∙ whole_is f.fields.object))
 
 none_is : (o : Option ObjectFault) → is_none o ≡ true → o ≡ None
 none_is None h = refl

@@ -211,10 +211,8 @@ impl ObjectFeed {
             None => {}
         }
         if let ObjectStage::Done = self.fields.fields.stage {
-            return match object_of(self.alloc, &self.fields.fields.object) {
-                Ok(object) => Ok(object),
-                Err(_) => Err(ObjectFail::Memory),
-            };
+            let object = object_of(self.alloc, &self.fields.fields.object)?;
+            return Ok(object);
         }
         if self.fields.width() == 0 {
             // Does not come: only `Done` wants nothing.

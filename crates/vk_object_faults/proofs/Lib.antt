@@ -1,4 +1,4 @@
 pub mod Along
-pub mod Codes
-pub mod Ends
+pub mod CodeFaults
+pub mod FirstFault
 pub mod Uses

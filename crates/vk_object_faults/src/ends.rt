@@ -29,7 +29,12 @@ fn first_fault(alloc: Global, object: &RawObject) -> Result<Option<ObjectFault>,
         None => {}
     }
     let env = names_of(alloc, object)?;
-    match fault_in_functions(alloc, &env, functions_at(object), object.functions.as_slice())? {
+    match fault_in_functions(
+        alloc,
+        &env,
+        functions_at(object),
+        object.functions.as_slice(),
+    )? {
         Some(at) => Ok(Some(ObjectFault {
             at,
             rule: ObjectRule::O9,

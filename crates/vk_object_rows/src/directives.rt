@@ -61,10 +61,7 @@ fn directive_of(row: &RawDirective) -> Result<Signature, Memory>
 }
 
 /// The directives of rows.
-pub(crate) fn directives_of(
-    alloc: Global,
-    rows: &[RawDirective],
-) -> Result<Vec<Signature>, Memory>
+pub(crate) fn directives_of(alloc: Global, rows: &[RawDirective]) -> Result<Vec<Signature>, Memory>
     ensures { IfOk result (λ signatures. map signature_tree signatures.items ≡ map signature_of rows.now) }
 {
     let mut directives = Vec::new(alloc);

@@ -75,10 +75,7 @@ fn function_of(alloc: Global, row: &RawFunction) -> Result<FunctionRow, Memory>
 }
 
 /// The functions of rows.
-pub(crate) fn functions_of(
-    alloc: Global,
-    rows: &[RawFunction],
-) -> Result<Vec<FunctionRow>, Memory>
+pub(crate) fn functions_of(alloc: Global, rows: &[RawFunction]) -> Result<Vec<FunctionRow>, Memory>
     ensures { IfOk result (λ functions. map function_list_of functions.items ≡ map function_of rows.now) }
 {
     let mut functions = Vec::new(alloc);

@@ -4,7 +4,7 @@ use Rattle.vk_code_format.specs.Places.{part_at}
 use Rattle.vk_code_rows.specs.Sums.{capped}
 use Rattle.vk_object_faults.specs.Inner.Told.{place_told}
 use Rattle.vk_object_faults.proofs.Along.{sum_told}
-use Rattle.vk_object_faults.proofs.Codes.{none_code, some_code}
+use Rattle.vk_object_faults.proofs.CodeFaults.{none_code, some_code}
 use Rattle.vk_object_faults.proofs.codes.fault_in_code.Goals as goal
 
 pub returns-in-None : goal.returns-in-None

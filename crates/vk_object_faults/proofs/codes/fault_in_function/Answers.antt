@@ -8,7 +8,7 @@ use Rattle.vk_object_format.specs.Object.{codes_in, front_length}
 use Rattle.vk_object_format.specs.Values.{object_of}
 use Rattle.vk_object_faults.specs.Inner.Told.{fault_in_function, faults_along, place_told}
 use Rattle.vk_object_faults.proofs.Along.{sum_told}
-use Rattle.vk_object_faults.proofs.Codes.{function_is}
+use Rattle.vk_object_faults.proofs.CodeFaults.{function_is}
 use Rattle.vk_object_faults.proofs.codes.fault_in_function.Goals as goal
 
 pub returns : goal.returns

@@ -6,7 +6,7 @@ use Rattle.vk_code_format.specs.Fields.{first_along}
 use Rattle.vk_object_format.specs.Object.{functions_at, symbol_length, symbols_at}
 use Rattle.vk_object_format.specs.declared.rows.RawFunction.{RawFunction}
 use Rattle.vk_object_faults.specs.Inner.Told.{fault_in_function, function_size, place_told, unused}
-use Rattle.vk_object_faults.proofs.Ends.{function_told, symbol_told}
+use Rattle.vk_object_faults.proofs.FirstFault.{function_told, symbol_told}
 use Rattle.vk_object_faults.proofs.ends.first_fault.Goals as goal
 
 pub returns-in-Some : goal.returns-in-Some

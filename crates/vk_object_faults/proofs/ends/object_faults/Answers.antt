@@ -1,7 +1,7 @@
 use Rattle.std.proofs.Common.{◌≡◌, ap, sym, ◌∙◌}
 use Rattle.std.specs.Option.{option_map}
 use Rattle.vk_object_format.specs.Object.{object_faults}
-use Rattle.vk_object_faults.proofs.Ends.{exact_none, exact_some}
+use Rattle.vk_object_faults.proofs.FirstFault.{exact_none, exact_some}
 use Rattle.vk_object_faults.proofs.ends.object_faults.Goals as goal
 
 pub returns-in-None : goal.returns-in-None

@@ -4,7 +4,7 @@ use Rattle.vk_code_rows.specs.Sums.{capped}
 use Rattle.vk_object_format.specs.Object.{codes_in, front_length}
 use Rattle.vk_object_faults.specs.Inner.Told.{code_size}
 use Rattle.vk_object_faults.proofs.Along.{sum_told}
-use Rattle.vk_object_faults.proofs.Codes.{size_is}
+use Rattle.vk_object_faults.proofs.CodeFaults.{size_is}
 use Rattle.vk_object_faults.proofs.lengths.function_size.Goals as goal
 
 pub returns : goal.returns

@@ -15,7 +15,7 @@ use Rattle.vk_object_format.specs.declared.rows.RawObject.{RawObject}
 use Rattle.vk_object_format.specs.Object.{bad_part_of, code_fault, codes_in, front_length, function_fault, function_length, functions_at, object_faults, place_in, symbol_fault, symbol_length, symbols_at}
 use Rattle.vk_object_format.specs.Values.{function_of, object_of}
 use Rattle.vk_object_faults.specs.Inner.Told.{capped_fault, fault_in_function, function_size, place_told, unused, uses_of}
-use Rattle.vk_object_faults.proofs.Codes.{functions_are}
+use Rattle.vk_object_faults.proofs.CodeFaults.{functions_are}
 use Rattle.vk_object_faults.proofs.Uses.{unused_is}
 
 -- a fault, if there is one, is of this rule
