@@ -1,0 +1,4 @@
+pub mod Along
+pub mod CodeFaults
+pub mod FirstFault
+pub mod Uses

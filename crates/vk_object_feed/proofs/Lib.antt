@@ -1,0 +1,5 @@
+pub mod Feeding
+pub mod Wanted
+pub mod WantedCode
+mod WantedData
+mod WantedFunction
