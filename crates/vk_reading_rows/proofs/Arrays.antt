@@ -48,4 +48,3 @@ module _ {P : Type 0} (seen : P → Array) where
   pub arrays_sorted : (ps qs : List P) → IsSortedBy is_below qs → IsStableBy is_below ps qs → map seen qs ≡ in_order (map seen ps)
   arrays_sorted ps qs up same =
       ap (map seen) (sorted_is is_below (ranks_by nat_list_cmp_total (λ p. (seen p).text)) put_item (λ a. refl) (λ a b bs. refl) items_in_order refl (λ a bs. refl) ps qs up same) ∙ order_seen ps
-
