@@ -1,11 +1,11 @@
 -- The first words of arrays are words of their types.
-use Rattle.std.proofs.Common.{◌≡◌, ℕ, zero, suc, ◌<◌, ◌≤◌, List, [], ◌∷◌, map, length, get_or, pos, unwrap_or, sym, ap, subst, ◌∙◌, arith, rules}
+use Rattle.std.proofs.Common.{◌≡◌, ℕ, zero, suc, ◌<◌, ◌≤◌, List, [], ◌∷◌, map, length, get_or, pos, unwrap_or, refl, sym, ap, subst, ◌∙◌, arith, rules}
 use Rattle.vk_types.specs.declared.types.Ty.{Ty}
 use Rattle.vk_types.specs.declared.types.Ty.TheVariants.{I8, I16, I32, I64, U8, U16, U32, U64}
 use Rattle.vk_types.specs.Numbers.{IsCanonical, IsInRange, number_of, wrap_number, word_of}
 use Rattle.vk_ast.specs.Tree.{Tree}
 use Rattle.vk_ast.specs.Units.{object_of}
-use Rattle.vk_numbers.proofs.Numbers.{wrap_in_range, canonical_word, word_of-number}
+use Rattle.vk_numbers.proofs.Numbers.{wrap_in_range, wrap_keeps, canonical_word, word_of-number}
 use Rattle.vk_meaning.specs.World.{Array, array_at, no_array}
 use Rattle.vk_meaning.specs.Programs.{initial_number}
 use Rattle.vk_reading_rows.specs.declared.objects.Placed.{Placed}
@@ -27,19 +27,12 @@ given_canonical t [] i = canonical_word t (pos 0) (zero_in_range t)
 given_canonical t (e ∷ es) zero = canonical_word t (wrap_number t (initial_number e)) (wrap_in_range t (initial_number e))
 given_canonical t (e ∷ es) (suc i) = given_canonical t es i
 
-wrapped_zero : (t : Ty) → word_of (wrap_number t (pos 0)) ≡ 0
-wrapped_zero I8 = search rules
-wrapped_zero I16 = search rules
-wrapped_zero I32 = search rules
-wrapped_zero I64 = search rules
-wrapped_zero U8 = search rules
-wrapped_zero U16 = search rules
-wrapped_zero U32 = search rules
-wrapped_zero U64 = search rules
+word_of_zero : word_of (pos 0) ≡ 0
+word_of_zero = refl
 
 -- the word of the number 0
 pub zero_word : (t : Ty) (w : ℕ) → number_of t w ≡ wrap_number t (pos 0) → IsCanonical t w → w ≡ 0
-zero_word t w e h = sym (word_of-number t w h) ∙ ap word_of e ∙ wrapped_zero t
+zero_word t w e h = sym (word_of-number t w h) ∙ ap word_of (e ∙ wrap_keeps t (pos 0) (zero_in_range t)) ∙ word_of_zero
 
 -- an array of a list has no more given elements than it has
 pub given_within : (ps : List Placed) (i : ℕ) (p : Placed) → i < length ps → p ≡ get_or ps i p → AreGivenWithin (map array_seen ps) → length (array_seen p).given ≤ (array_seen p).length

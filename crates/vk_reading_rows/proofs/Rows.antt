@@ -56,14 +56,14 @@ zeros_of (suc n) w e = ap (λ k. k ∷ map (λ v. v.0) (replicate n w)) e ∙ ap
 -- the words of a row: those that are given, and zeros up to its length
 pub words_made : (ws new : List Word) (w : Word) (n k : ℕ) (given : List ℕ) (size : ℕ) → map (λ v. v.0) ws ≡ given → length given ≤ size → n ≡ size → w.0 ≡ 0 → k ≡ length ws →
     new ≡ take n ws ++ replicate (n - k) w → map (λ v. v.0) new ≡ given ++ zeros (size - length given)
-words_made ws new w n k given size e fits is zero same made =
+words_made ws new w n k given size e fits is none same made =
     let many : length ws ≡ length given = sym (length_words ws) ∙ ap length e in
     let all : take n ws ≡ ws = take_all n ws (omega (arith, many, fits, is)) in
     let left : n - k ≡ size - length given = omega (arith, many, fits, is, same) in
     ap (map (λ v. v.0)) made ∙ map-append (λ (v : Word). v.0) (take n ws) (replicate (n - k) w)
     ∙ ap (λ (l : List Word). map (λ v. v.0) l ++ map (λ v. v.0) (replicate (n - k) w)) all
     ∙ ap (λ (l : List ℕ). l ++ map (λ v. v.0) (replicate (n - k) w)) e
-    ∙ ap (λ (l : List ℕ). given ++ l) (zeros_of (n - k) w zero ∙ ap zeros left)
+    ∙ ap (λ (l : List ℕ). given ++ l) (zeros_of (n - k) w none ∙ ap zeros left)
 
 -- ---- one row
 

@@ -1,4 +1,4 @@
-use Rattle.std.proofs.Common.{◌≡◌, ℕ, List, length, ap, unwrap_or, rules}
+use Rattle.std.proofs.Common.{◌≡◌, ℕ, List, [], length, ap, unwrap_or, rules}
 use Rattle.vk_ast.specs.Units.{object_of}
 use Rattle.vk_reading_rows.specs.Objects.{array_seen}
 use Rattle.vk_reading_rows.specs.Inner.Rows.{FirstCells, given_words}
