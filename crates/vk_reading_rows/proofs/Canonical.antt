@@ -6,7 +6,7 @@ use Rattle.vk_types.specs.Numbers.{IsCanonical, IsInRange, number_of, wrap_numbe
 use Rattle.vk_ast.specs.Tree.{Tree}
 use Rattle.vk_ast.specs.Units.{object_of}
 use Rattle.vk_numbers.proofs.Numbers.{wrap_in_range, wrap_keeps, canonical_word, word_of-number}
-use Rattle.vk_meaning.specs.World.{Array, array_at, no_array}
+use Rattle.vk_meaning.specs.World.{array_at}
 use Rattle.vk_meaning.specs.Programs.{initial_number}
 use Rattle.vk_reading_rows.specs.declared.objects.Placed.{Placed}
 use Rattle.vk_reading_rows.specs.Objects.{AreGivenWithin, array_seen}

@@ -1,14 +1,14 @@
 -- Rows that have the first words of arrays.
-use Rattle.std.proofs.Common.{◌≡◌, ℕ, zero, suc, ◌+◌, ◌-◌, ◌≤◌, List, [], ◌∷◌, ◌++◌, map, length, get_or, drop, take, slice_get, Some, refl, sym, ap, subst, ◌∙◌, arith, length-append}
+use Rattle.std.proofs.Common.{◌≡◌, ℕ, zero, suc, ◌-◌, ◌≤◌, List, [], ◌∷◌, ◌++◌, map, length, get_or, drop, take, slice_get, Some, refl, sym, ap, subst, ◌∙◌, arith, length-append}
 use Rattle.std.specs.Prelude.{replicate}
 use Rattle.std.proofs.lemmas.Option.{none-some, same_Some}
 use Rattle.std.proofs.lemmas.List.{take_all, map-append}
 use Rattle.vk_types.specs.declared.types.Word.{Word}
 use Rattle.vk_types.specs.declared.types.Ty.{Ty}
 use Rattle.vk_types.specs.Numbers.{IsCanonical}
-use Rattle.vk_meaning.specs.World.{Array, array_at, no_array, first_memory}
+use Rattle.vk_meaning.specs.World.{Array, array_at, first_memory}
 use Rattle.vk_reading.specs.declared.cells.Row.{Row}
-use Rattle.vk_reading.specs.Cells.{word_in, cell_in, memory_in, IsRowOf, AreRowsOf, HaveWords}
+use Rattle.vk_reading.specs.Cells.{word_in, memory_in, IsRowOf, AreRowsOf, HaveWords}
 use Rattle.vk_reading_rows.specs.Inner.Rows.{FirstCells, row_seen, cells_of}
 
 abbrev is_empty : {X : Type 0} → List X → ℕ

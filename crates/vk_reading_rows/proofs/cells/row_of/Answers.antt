@@ -1,7 +1,7 @@
 use Rattle.std.proofs.Common.{◌≡◌, ℕ, List, [], length, ap, unwrap_or, rules}
 use Rattle.vk_ast.specs.Units.{object_of}
 use Rattle.vk_reading_rows.specs.Objects.{array_seen}
-use Rattle.vk_reading_rows.specs.Inner.Rows.{FirstCells, given_words}
+use Rattle.vk_reading_rows.specs.Inner.Rows.{given_words}
 use Rattle.vk_reading_rows.proofs.Canonical.{zero_word}
 use Rattle.vk_reading_rows.proofs.Rows.{words_made}
 use Rattle.vk_reading_rows.proofs.cells.row_of.Goals as goal
