@@ -1,6 +1,5 @@
 -- Arrays in ascending order of names, whatever they are made of.
-use Rattle.std.proofs.Common.{◌≡◌, ℕ, zero, suc, ◌+◌, Bool, true, false, cond, not, List, [], ◌∷◌, ◌++◌, map, length, Option, Some, None, refl, sym, ap, ◌∙◌, bytes_eq, position, Ordering, Less, Equal, Greater, is_lt, is_le, nat_cmp, add-one}
-use Rattle.std.specs.Option.{option_or, option_map}
+use Rattle.std.proofs.Common.{◌≡◌, ℕ, Bool, true, false, cond, not, List, [], ◌∷◌, map, refl, sym, ap, ◌∙◌, Ordering, Less, Equal, Greater, is_lt, is_le, nat_cmp}
 use Rattle.std.specs.List.Sorted.{IsSortedBy, IsStableBy}
 use Rattle.std.specs.Cmp.Lexicographic.{slice_cmp}
 use Rattle.std.specs.Ordering.{ordering_reverse}
@@ -48,4 +47,3 @@ module _ {P : Type 0} (seen : P → Array) where
   pub arrays_sorted : (ps qs : List P) → IsSortedBy is_below qs → IsStableBy is_below ps qs → map seen qs ≡ in_order (map seen ps)
   arrays_sorted ps qs up same =
       ap (map seen) (sorted_is is_below (ranks_by nat_list_cmp_total (λ p. (seen p).text)) put_item (λ a. refl) (λ a b bs. refl) items_in_order refl (λ a bs. refl) ps qs up same) ∙ order_seen ps
-

@@ -1,5 +1,5 @@
 -- The numbers of names.
-use Rattle.std.proofs.Common.{◌≡◌, ℕ, List, length, map, Option, position, bytes_eq, unwrap_or, ap, ◌∙◌}
+use Rattle.std.proofs.Common.{◌≡◌, ℕ, List, map, Option, position, bytes_eq, unwrap_or, ap, ◌∙◌}
 use Rattle.vk_meaning.specs.World.{Array}
 use Rattle.vk_meaning.specs.Programs.{array_number}
 use Rattle.vk_reading_rows.specs.declared.numbers.ArrayNumbers.{ArrayNumbers}

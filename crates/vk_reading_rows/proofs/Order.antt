@@ -1,5 +1,5 @@
 -- Lists in ascending order: one that was sorted stably is the one that insertion makes.
-use Rattle.std.proofs.Common.{◌≡◌, ℕ, zero, suc, ◌+◌, ◌<◌, ◌≤◌, Bool, true, false, cond, ◌&&◌, not, List, [], ◌∷◌, ◌++◌, get_or, drop, length, Some, refl, sym, ap, subst, ◌∙◌, true≢false, arith}
+use Rattle.std.proofs.Common.{◌≡◌, ℕ, suc, ◌<◌, ◌≤◌, Bool, true, false, cond, ◌&&◌, not, List, [], ◌∷◌, get_or, drop, length, refl, sym, ap, subst, ◌∙◌, true≢false, arith}
 use Rattle.std.specs.List.{filter}
 use Rattle.std.specs.List.Sorted.{ties, IsSortedBy, IsStableBy}
 use Rattle.std.specs.Cmp.{IsStrictWeakOrder}

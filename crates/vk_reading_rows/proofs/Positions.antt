@@ -1,5 +1,5 @@
 -- The first place at which a test passes, one element after another.
-use Rattle.std.proofs.Common.{◌≡◌, ℕ, zero, suc, ◌+◌, Bool, true, false, cond, not, ◌<◌, List, [], ◌∷◌, ◌++◌, length, take, get_or, map, nat_lt, bytes_eq, Option, Some, None, position, refl, sym, ap, ◌∙◌, arith}
+use Rattle.std.proofs.Common.{◌≡◌, ℕ, suc, ◌+◌, Bool, true, false, cond, not, ◌<◌, List, [], ◌∷◌, ◌++◌, length, take, get_or, map, nat_lt, bytes_eq, Option, Some, None, position, refl, sym, ap, ◌∙◌, arith}
 use Rattle.std.proofs.lemmas.List.{take_more, map-append, length-map, length-take-le}
 use Rattle.vk_meaning.specs.World.{Array}
 use Rattle.std.specs.Option.{option_or, option_map}

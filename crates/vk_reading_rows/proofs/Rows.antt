@@ -1,13 +1,14 @@
 -- Rows that have the first words of arrays.
-use Rattle.std.proofs.Common.{◌≡◌, ℕ, zero, suc, ◌+◌, ◌-◌, ◌≤◌, List, [], ◌∷◌, ◌++◌, map, length, get_or, drop, slice_get, Some, refl, sym, ap, subst, ◌∙◌, arith, length-append}
+use Rattle.std.proofs.Common.{◌≡◌, ℕ, zero, suc, ◌-◌, ◌≤◌, List, [], ◌∷◌, ◌++◌, map, length, get_or, drop, take, slice_get, Some, refl, sym, ap, subst, ◌∙◌, arith, length-append}
 use Rattle.std.specs.Prelude.{replicate}
 use Rattle.std.proofs.lemmas.Option.{none-some, same_Some}
+use Rattle.std.proofs.lemmas.List.{take_all, map-append}
 use Rattle.vk_types.specs.declared.types.Word.{Word}
 use Rattle.vk_types.specs.declared.types.Ty.{Ty}
 use Rattle.vk_types.specs.Numbers.{IsCanonical}
-use Rattle.vk_meaning.specs.World.{Array, array_at, no_array, first_memory}
+use Rattle.vk_meaning.specs.World.{Array, array_at, first_memory}
 use Rattle.vk_reading.specs.declared.cells.Row.{Row}
-use Rattle.vk_reading.specs.Cells.{word_in, cell_in, memory_in, IsRowOf, AreRowsOf, HaveWords}
+use Rattle.vk_reading.specs.Cells.{word_in, memory_in, IsRowOf, AreRowsOf, HaveWords}
 use Rattle.vk_reading_rows.specs.Inner.Rows.{FirstCells, row_seen, cells_of}
 
 abbrev is_empty : {X : Type 0} → List X → ℕ
@@ -47,6 +48,22 @@ length_zeros (suc n) = ap suc (length_zeros n)
 
 length_cells : (given : List ℕ) (n : ℕ) → length given ≤ n → length (given ++ zeros (n - length given)) ≡ n
 length_cells given n h = length-append given (zeros (n - length given)) ∙ let e = length_zeros (n - length given) in omega (arith, e, h)
+
+zeros_of : (n : ℕ) (w : Word) → w.0 ≡ 0 → map (λ v. v.0) (replicate n w) ≡ zeros n
+zeros_of zero w e = refl
+zeros_of (suc n) w e = ap (λ k. k ∷ map (λ v. v.0) (replicate n w)) e ∙ ap (λ ks. 0 ∷ ks) (zeros_of n w e)
+
+-- the words of a row: those that are given, and zeros up to its length
+pub words_made : (ws new : List Word) (w : Word) (n k : ℕ) (given : List ℕ) (size : ℕ) → map (λ v. v.0) ws ≡ given → length given ≤ size → n ≡ size → w.0 ≡ 0 → k ≡ length ws →
+    new ≡ take n ws ++ replicate (n - k) w → map (λ v. v.0) new ≡ given ++ zeros (size - length given)
+words_made ws new w n k given size e fits is none same made =
+    let many : length ws ≡ length given = sym (length_words ws) ∙ ap length e in
+    let all : take n ws ≡ ws = take_all n ws (omega (arith, many, fits, is)) in
+    let left : n - k ≡ size - length given = omega (arith, many, fits, is, same) in
+    ap (map (λ v. v.0)) made ∙ map-append (λ (v : Word). v.0) (take n ws) (replicate (n - k) w)
+    ∙ ap (λ (l : List Word). map (λ v. v.0) l ++ map (λ v. v.0) (replicate (n - k) w)) all
+    ∙ ap (λ (l : List ℕ). l ++ map (λ v. v.0) (replicate (n - k) w)) e
+    ∙ ap (λ (l : List ℕ). given ++ l) (zeros_of (n - k) w none ∙ ap zeros left)
 
 -- ---- one row
 

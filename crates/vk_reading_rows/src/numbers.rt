@@ -22,10 +22,7 @@ pub struct ArrayNumbers<'a> {
 }
 
 // The number of the first array with each name.
-fn numbers_of<'a>(
-    alloc: Global,
-    objects: &[Placed<'a>],
-) -> Result<HashMap<&'a [u8], u32>, Memory>
+fn numbers_of<'a>(alloc: Global, objects: &[Placed<'a>]) -> Result<HashMap<&'a [u8], u32>, Memory>
     ensures { IfOk result (λ table. (t : List ℕ) → noted table t ≡ position (λ a. bytes_eq a.text t) (map array_seen objects.now)) }
 {
     let mut table = HashMap::new(alloc);
@@ -39,10 +36,7 @@ fn numbers_of<'a>(
 }
 
 /// The numbers of these arrays.
-pub fn array_numbers<'a>(
-    alloc: Global,
-    objects: &[Placed<'a>],
-) -> Result<ArrayNumbers<'a>, Memory>
+pub fn array_numbers<'a>(alloc: Global, objects: &[Placed<'a>]) -> Result<ArrayNumbers<'a>, Memory>
     ensures { IfOk result (λ numbers. IsNumbering (map array_seen objects.now) numbers) }
 {
     let by_text = numbers_of(alloc, objects)?;

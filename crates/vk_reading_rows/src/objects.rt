@@ -68,15 +68,25 @@ fn add_object<'a>(
     }
 }
 
+// Adds the objects that some items of a unit define.
+fn add_items<'a>(
+    list: &mut Vec<Placed<'a>>,
+    checked: &'a Checked,
+    items: &'a [Item],
+) -> Result<(), Memory>
+    ensures { OnOk result (map array_seen list.new.items ≡ map array_seen list.old.items ++ filter_map (array_defined (judged checked.now)) (map item_of items.now)) }
+{
+    for item in items {
+        add_object(list, checked, item)?;
+    }
+    Ok(())
+}
+
 // Adds the objects that a unit defines.
 fn add_objects<'a>(list: &mut Vec<Placed<'a>>, checked: &'a Checked) -> Result<(), Memory>
     ensures { OnOk result (map array_seen list.new.items ≡ map array_seen list.old.items ++ objects_of_unit (judged checked.now)) }
 {
-    let unit = checked.unit();
-    for item in &unit.items {
-        add_object(list, checked, item)?;
-    }
-    Ok(())
+    add_items(list, checked, &checked.unit().items)
 }
 
 // The objects that the units define, unit by unit.
@@ -91,10 +101,7 @@ fn objects_of<'a>(alloc: Global, units: &'a [Checked]) -> Result<Vec<Placed<'a>>
 }
 
 /// The objects that the units define, which are the arrays of the program: in ascending order of names, byte by byte.
-pub fn objects_in_order<'a>(
-    alloc: Global,
-    units: &'a [Checked],
-) -> Result<Vec<Placed<'a>>, Memory>
+pub fn objects_in_order<'a>(alloc: Global, units: &'a [Checked]) -> Result<Vec<Placed<'a>>, Memory>
     ensures { IfOk result (λ list. map array_seen list.items ≡ arrays_of (subjects_of units.now)) }
 {
     let mut list = objects_of(alloc, units)?;

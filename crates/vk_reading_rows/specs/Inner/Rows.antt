@@ -1,9 +1,8 @@
 -- The first words of arrays, and rows as their types and words.
-use Rattle.std.specs.Prelude.{ℕ, ◌-◌, ◌++◌, List, [], map, length, replicate, unwrap_or}
+use Rattle.std.specs.Prelude.{ℕ, ◌-◌, ◌++◌, List, map, length, replicate}
 use Rattle.vk_types.specs.declared.types.Ty.{Ty}
 use Rattle.vk_types.specs.Numbers.{wrap_number, word_of}
 use Rattle.vk_ast.specs.Tree.{Tree}
-use Rattle.vk_ast.specs.Units.{ObjectTree}
 use Rattle.vk_meaning.specs.World.{Array}
 use Rattle.vk_meaning.specs.Programs.{initial_number}
 use Rattle.vk_reading.specs.declared.cells.Row.{Row}
