@@ -1,0 +1,5 @@
+//! Names with what they select in units.
+#![tactic(auto)]
+
+#[cfg(test)]
+mod tests;
