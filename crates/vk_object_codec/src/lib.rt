@@ -1,8 +1,0 @@
-//! Objects from bytes, in pieces or at once.
-#![tactic(auto)]
-
-pub mod feed;
-pub mod read;
-
-pub use feed::ObjectFeed;
-pub use read::read_object;
