@@ -1,6 +1,6 @@
-use crate::bytes::{GAIN, IMAGE, NOTHING, OBJECT};
+use crate::bytes::{GAIN, IMAGE, NOTHING};
 use crate::images::tables;
-use crate::objects::{all_kinds, gain, nothing};
+use crate::objects::{gain, nothing};
 use std::test::Fail;
 use vk_image::image_of;
 use vk_image_write::write_image;
@@ -17,13 +17,6 @@ fn an_object_of_nothing_has_24_bytes(rt: HostRuntime) -> Result<(), Fail> {
 fn one_symbol_and_one_object_have_44_bytes(rt: HostRuntime) -> Result<(), Fail> {
     let bytes = write_object(rt.alloc(), &gain(rt.alloc())?)?;
     assert_eq!(rt; bytes.as_slice(), &GAIN[..]);
-    Ok(())
-}
-
-#[test]
-fn an_object_with_every_kind_of_record_is_written(rt: HostRuntime) -> Result<(), Fail> {
-    let bytes = write_object(rt.alloc(), &all_kinds(rt.alloc())?)?;
-    assert_eq!(rt; bytes.as_slice(), &OBJECT[..]);
     Ok(())
 }
 

@@ -1,5 +1,5 @@
 -- Tables of which no condition is broken have valid codes, entries that call what they may, and short chains.
-use Rattle.std.proofs.Common.{◌≡◌, ℕ, suc, ◌+◌, ◌==◌, ◌<◌, Bool, true, false, not, ◌&&◌, ◌||◌, cond, List, [], ◌∷◌, ◌++◌, length, map, Option, Some, None, refl, sym, ap, ap₂, ◌∙◌, subst, slice_get, arith}
+use Rattle.std.proofs.Common.{◌≡◌, ℕ, zero, suc, ◌+◌, ◌==◌, ◌<◌, Bool, true, false, not, ◌&&◌, ◌||◌, cond, List, [], ◌∷◌, ◌++◌, length, map, Option, Some, None, refl, sym, ap, ap₂, ◌∙◌, subst, slice_get, arith}
 use Rattle.std.specs.Prelude.{nat_le, nat_lt}
 use Rattle.std.specs.List.{list_all, list_any}
 use Rattle.std.specs.Option.{option_map}
@@ -89,7 +89,7 @@ codes_valid i (c ∷ cs) n at bodies h =
 lane_codes : (i : RawImage) (cs : List CodeRow) (n at : ℕ) → first_along (code_length (in_image (length i.codes))) (code_fault i) n at cs ≡ None
     → (k : ℕ) (c : CodeRow) → slice_get cs k ≡ Some c → (m : ℕ) → m ≡ n + k → (c.routine.front.lane_code || not (list_any (asks_for (tables_of i) m) (tables_of i).entries)) ≡ true
 lane_codes i [] n at h k c is m e = absurd cc
-lane_codes i (d ∷ cs) n at h 0 c is m e =
+lane_codes i (d ∷ cs) n at h zero c is m e =
     let size = code_length (in_image (length i.codes)) in
     let same : d ≡ c = cc in
     let number : m ≡ n = omega (arith, e) in
@@ -189,7 +189,7 @@ no_code i e inside none =
   where
     within : (cs : List CodeRow) (k : ℕ) → k < length cs → slice_get cs k ≡ None → ⊥
     within [] k lt none = omega (arith, lt)
-    within (c ∷ cs) 0 lt none = cc
+    within (c ∷ cs) zero lt none = cc
     within (c ∷ cs) (suc k) lt none = within cs k (omega (arith, lt)) none
 
 abbrev along : RawImage → (Tables → ℕ → ℕ → RawEntry → Option ObjectFault) → ℕ → ℕ → List RawEntry → Option ObjectFault

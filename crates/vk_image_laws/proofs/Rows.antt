@@ -21,6 +21,7 @@ use Rattle.vk_code_format.specs.declared.rows.BodyRow.{BodyRow}
 use Rattle.vk_code_format.specs.declared.rows.BodyRow.TheVariants.{Inline, Number}
 use Rattle.vk_code_format.specs.declared.rows.CodeRow.{CodeRow}
 use Rattle.vk_code_format.specs.declared.rows.LoopRow.{LoopRow}
+use Rattle.vk_code_format.specs.declared.rows.RoutineRow.{RoutineRow}
 use Rattle.vk_code_format.specs.Codes.{body, code, in_image, loop_site}
 use Rattle.vk_code_format.specs.Fields.{below, comes_after, last_of}
 use Rattle.vk_code_format.specs.Parameters.{param_of}
@@ -101,7 +102,7 @@ module _ (i : RawImage) where
   body_fits captures (Number n) h = number_of_map listing_of i.codes n (passed (λ k. nat_lt k (length i.codes)) n n h.0.0.1)
   body_fits captures (Inline r) h = absurd (no_number r h.0.1)
     where
-      no_number : (r : _) → Number 0 ≡ Inline r → ⊥
+      no_number : (r : RoutineRow) → Number 0 ≡ Inline r → ⊥
       no_number r e = cc
 
   loop_fits : (l : LoopRow) → (loop_site {R = RawImage} (in_image (length i.codes))).fits l → has_body (tables_of i) (site_of l) ≡ true
