@@ -1,5 +1,5 @@
 use crate::bytes::IMAGE;
-use crate::changes::CHANGES;
+use crate::changes::{CHANGES, Change};
 use ObjectRule::{O3, O4, O5};
 use std::alloc::Global;
 use std::test::Fail;
@@ -22,24 +22,57 @@ fn fault_of(alloc: Global, bytes: &[u8]) -> Result<Option<ObjectFault>, Memory> 
     }
 }
 
-// The image with another byte at a place.
-fn changed(alloc: Global, place: usize, byte: u8) -> Result<Vec<u8>, Memory> {
-    let mut bytes = Vec::from_slice(alloc, &IMAGE)?;
+// The bytes with another one at a place.
+fn changed(alloc: Global, bytes: &[u8], place: usize, byte: u8) -> Result<Vec<u8>, Memory> {
+    let mut bytes = Vec::from_slice(alloc, bytes)?;
     if place < bytes.len() {
         bytes[place] = byte;
     }
     Ok(bytes)
 }
 
-#[test]
-fn each_front_of_an_image_ends_inside_a_field(rt: HostRuntime) -> Result<(), Fail> {
-    for n in 0..IMAGE.len() {
+// The first front of the bytes that does not end inside a field.
+fn other_front(alloc: Global, bytes: &[u8]) -> Result<usize, Memory> {
+    for n in 0..bytes.len() {
         let want = Some(ObjectFault {
             at: n as u64,
             rule: O4,
         });
-        assert_eq!(rt; fault_of(rt.alloc(), &IMAGE[..n])?, want);
+        if fault_of(alloc, &bytes[..n])? != want {
+            return Ok(n);
+        }
     }
+    Ok(bytes.len())
+}
+
+// The first row whose change is told otherwise.
+fn other_change(alloc: Global, bytes: &[u8], rows: &[Change]) -> Result<usize, Memory> {
+    for (row, (place, byte, at, rule)) in rows.iter().enumerate() {
+        let changed = changed(alloc, bytes, usize::from(*place), *byte)?;
+        let want = Some(ObjectFault {
+            at: u64::from(*at),
+            rule: *rule,
+        });
+        if fault_of(alloc, &changed)? != want {
+            return Ok(row);
+        }
+    }
+    Ok(rows.len())
+}
+
+// Whether each byte is taken.
+fn takes_each(feed: &mut RawImageFeed, bytes: &[u8]) -> bool {
+    for byte in bytes {
+        if feed.feed(&[*byte]).is_err() {
+            return false;
+        }
+    }
+    true
+}
+
+#[test]
+fn each_front_of_an_image_ends_inside_a_field(rt: HostRuntime) -> Result<(), Fail> {
+    assert_eq!(rt; other_front(rt.alloc(), &IMAGE)?, IMAGE.len());
     assert_eq!(rt; fault_of(rt.alloc(), &IMAGE)?, None);
     Ok(())
 }
@@ -47,9 +80,7 @@ fn each_front_of_an_image_ends_inside_a_field(rt: HostRuntime) -> Result<(), Fai
 #[test]
 fn a_byte_more_is_told_at_once_and_again(rt: HostRuntime) -> Result<(), Fail> {
     let mut feed = RawImageFeed::new(rt.alloc());
-    for byte in IMAGE {
-        assert_eq!(rt; feed.feed(&[byte]), Ok(()));
-    }
+    assert!(rt; takes_each(&mut feed, &IMAGE));
     let fault = Err(ObjectFail::Fault(ObjectFault { at: 284, rule: O5 }));
     assert_eq!(rt; feed.feed(&[0]), fault);
     assert_eq!(rt; feed.feed(&[]), fault);
@@ -57,25 +88,22 @@ fn a_byte_more_is_told_at_once_and_again(rt: HostRuntime) -> Result<(), Fail> {
     Ok(())
 }
 
+// A letter that is none, one of the other target, and a vector length with another letter than `s`.
+static LETTERS: [Change; 4] = [
+    (11, b'z', 11, O3),
+    (11, b'n', 11, O3),
+    (12, 1, 12, O3),
+    (13, 1, 12, O3),
+];
+
 #[test]
 fn letter_and_vector_length_are_judged_at_their_fields(rt: HostRuntime) -> Result<(), Fail> {
-    for (place, byte, at) in [(11, b'z', 11), (11, b'n', 11), (12, 1, 12), (13, 1, 12)] {
-        let bytes = changed(rt.alloc(), place, byte)?;
-        let want = Some(ObjectFault { at, rule: O3 });
-        assert_eq!(rt; fault_of(rt.alloc(), &bytes)?, want);
-    }
+    assert_eq!(rt; other_change(rt.alloc(), &IMAGE, &LETTERS)?, LETTERS.len());
     Ok(())
 }
 
 #[test]
 fn a_changed_byte_is_told_at_its_field(rt: HostRuntime) -> Result<(), Fail> {
-    for (place, byte, at, rule) in CHANGES {
-        let bytes = changed(rt.alloc(), usize::from(place), byte)?;
-        let want = Some(ObjectFault {
-            at: u64::from(at),
-            rule,
-        });
-        assert!(rt; fault_of(rt.alloc(), &bytes)? == want, "{place} {byte}");
-    }
+    assert_eq!(rt; other_change(rt.alloc(), &IMAGE, &CHANGES)?, CHANGES.len());
     Ok(())
 }
