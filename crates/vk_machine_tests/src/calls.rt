@@ -116,24 +116,13 @@ fn calls_on_a_pointer(alloc: Global, row: &Row) -> Result<bool, Memory> {
     Ok(goes(&mut machine, row))
 }
 
-static ADD: [Line; 1] = [(Binary, 2, 0, 2, 0, 1)];
-
-// 20 / (20 - b)
-static DIVIDE: [Line; 3] = [
-    (Const, 2, 0, 6, 0, 20),
-    (Binary, 2, 0, 7, 6, 1 + X),
-    (Binary, 2, 0, 2, 6, 7 + 3 * X),
-];
-
-static READ: [Line; 1] = [(Load, 0, 0, 2, 0, 0)];
-
 const OWN_WORDS: [Kind; 2] = [Kind::Vector, Kind::Vector];
 
 static BOTH: [Row; 6] = [
     Row {
         target: 1,
         kinds: OWN_WORDS,
-        lines: &ADD,
+        lines: &[(Binary, 2, 0, 2, 0, 1)],
         results: [100, 12, 23, 34],
         stops: GOES,
         calls: [1, 0],
@@ -142,7 +131,7 @@ static BOTH: [Row; 6] = [
     Row {
         target: 1,
         kinds: [Kind::Vector, Kind::Uniform],
-        lines: &ADD,
+        lines: &[(Binary, 2, 0, 2, 0, 1)],
         results: [100, 12, 13, 14],
         stops: GOES,
         calls: [1, 0],
@@ -150,7 +139,7 @@ static BOTH: [Row; 6] = [
     Row {
         target: 1,
         kinds: [Kind::Vector, Kind::Linear(Step::By(2))],
-        lines: &ADD,
+        lines: &[(Binary, 2, 0, 2, 0, 1)],
         results: [100, 12, 15, 18],
         stops: GOES,
         calls: [1, 0],
@@ -158,7 +147,7 @@ static BOTH: [Row; 6] = [
     Row {
         target: 1,
         kinds: [Kind::Uniform, Kind::Linear(Step::Arg(0))],
-        lines: &ADD,
+        lines: &[(Binary, 2, 0, 2, 0, 1)],
         results: [100, 12, 14, 16],
         stops: GOES,
         calls: [1, 0],
@@ -166,16 +155,20 @@ static BOTH: [Row; 6] = [
     Row {
         target: 2,
         kinds: OWN_WORDS,
-        lines: &ADD,
+        lines: &[(Binary, 2, 0, 2, 0, 1)],
         results: [100, 12, 23, 34],
         stops: GOES,
         calls: [0, 3],
     },
-    // lane 2 stops
+    // 20 / (20 - b) stops in lane 2
     Row {
         target: 1,
         kinds: OWN_WORDS,
-        lines: &DIVIDE,
+        lines: &[
+            (Const, 2, 0, 6, 0, 20),
+            (Binary, 2, 0, 7, 6, 1 + X),
+            (Binary, 2, 0, 2, 6, 7 + 3 * X),
+        ],
         results: [100, 2, 102, MINUS_1 - 1],
         stops: [None, None, Some(Stop::Divide), None],
         calls: [1, 0],
@@ -209,7 +202,7 @@ static POINTERS: [Row; 2] = [
     Row {
         target: 1,
         kinds: [Kind::Linear(Step::By(4)), Kind::Vector],
-        lines: &READ,
+        lines: &[(Load, 0, 0, 2, 0, 0)],
         results: [100, 5, 6, 7],
         stops: GOES,
         calls: [1, 0],
@@ -218,7 +211,7 @@ static POINTERS: [Row; 2] = [
     Row {
         target: 1,
         kinds: [Kind::Linear(Step::Arg(1)), Kind::Uniform],
-        lines: &READ,
+        lines: &[(Load, 0, 0, 2, 0, 0)],
         results: [100, 5, 7, 0],
         stops: GOES,
         calls: [1, 0],

@@ -21,11 +21,11 @@ static BODY: [Line; 3] = [
 ];
 
 // Registers 0 and 1 are the bounds, 2 the pointer of the body, 3 the one of the guard. The count is printed behind the loop.
-fn main_code(alloc: Global, count: u64, stored: u64, other: u64) -> Result<Code, Memory> {
+fn main_code(alloc: Global, count: u64, stored: u32, other: u32) -> Result<Code, Memory> {
     let lines = [
         (Opcode::Const, 3, 0, 1, 0, count),
-        (Opcode::Addr, 0, 0, 2, 0, stored * X),
-        (Opcode::Addr, 0, 0, 3, 0, other * X),
+        (Opcode::Addr, 0, 0, 2, 0, u64::from(stored) * X),
+        (Opcode::Addr, 0, 0, 3, 0, u64::from(other) * X),
         (Opcode::SimdLoop, 0, 0, 0, 0, 0),
         (Opcode::Print, 0, 0, 0, 1, 0),
     ];
@@ -55,7 +55,7 @@ fn main_code(alloc: Global, count: u64, stored: u64, other: u64) -> Result<Code,
 }
 
 // The image of a program whose `main` stores so many numbers to an array, where another one is guarded.
-fn storing(alloc: Global, count: u64, stored: u64, other: u64) -> Result<Option<Image>, Memory> {
+fn storing(alloc: Global, count: u64, stored: u32, other: u32) -> Result<Option<Image>, Memory> {
     let main = main_code(alloc, count, stored, other)?;
     let body = code(alloc, true, 2, None, &[LONG, WRITTEN, INT], 1, &BODY)?;
     let mut first = entry(alloc, "main", EntryKind::Ordinary, 1, 0, &[])?;
@@ -74,8 +74,8 @@ fn storing(alloc: Global, count: u64, stored: u64, other: u64) -> Result<Option<
 // fails. Then how it ends, what is printed, how often the chunk and the rest are called, and the first six elements of the array.
 struct Row {
     count: u64,
-    stored: u64,
-    other: u64,
+    stored: u32,
+    other: u32,
     turns: u32,
     failing: u64,
     end: Result<Reading, RunFail>,
