@@ -1,0 +1,74 @@
+-- What an emitter has written, and what its methods add.
+use Rattle.std.specs.Prelude.{◌≡◌, ◌≢◌, ℕ, ◌+◌, ◌<◌, ◌≤◌, max, List, [], ◌∷◌, ◌++◌, length, map, Some, ℤ, Result}
+use Rattle.vk_types.specs.declared.types.Stop.{Stop}
+use Rattle.vk_types.specs.declared.types.Ty.{Ty}
+use Rattle.vk_kinds.specs.declared.heads.CType.TheVariants.{Int}
+use Rattle.vk_code.specs.declared.instruction.Instr.{Instr}
+use Rattle.vk_code.specs.declared.instruction.Operation.{Operation}
+use Rattle.vk_code.specs.Instruction.{operation_of}
+use Rattle.vk_code.specs.Listing.{call_site_of}
+use Rattle.vk_lane.specs.Places.{Share}
+use Rattle.vk_construct.specs.Adds.{AddsNumber, HasType, Written}
+use Rattle.vk_flat.specs.declared.emitter.Emitter.{Emitter}
+use Rattle.vk_flat.specs.declared.emitter.Place.{Place}
+use Rattle.vk_flat.specs.declared.emitter.Under.{Under}
+
+-- ---- what has been written
+
+abbrev pub written_of : Emitter → Written
+written_of e = record { params = e.params; regs = e.regs.items; masks = e.masks; slots = map call_site_of e.slots.items; instrs = e.instrs.items }
+
+-- with one register more
+abbrev pub with_register : Written → Ty → Written
+with_register w t = record w { regs = w.regs ++ Int t ∷ [] }
+
+-- with at least so many masks
+abbrev pub with_masks : Written → ℕ → Written
+with_masks w n = record w { masks = max w.masks n }
+
+-- with one instruction more
+abbrev pub with_instr : Written → Instr → Written
+with_instr w i = record w { instrs = w.instrs ++ i ∷ [] }
+
+-- an instruction with this operation has come behind, under mask m
+pub record HasPut (old new : Written) (m : ℕ) (o : Operation) : Type 0 where
+  pub instr : Instr
+  pub mask : instr.m ≡ m
+  pub operation : operation_of instr ≡ Some o
+  pub written : new ≡ with_instr old instr
+
+-- ---- where code comes
+
+-- the parameters have registers, the running mask is there, and masks from the free one on are those that code may write
+pub record IsOpen (w : Written) (u : Under) : Type 0 where
+  pub params : w.params ≤ length w.regs
+  pub running : u.mask < u.free
+  pub masks : u.free ≤ w.masks
+
+-- a register of the type that it is said to have
+abbrev pub IsPlace : Written → Place → Type 0
+IsPlace w a = HasType w a.register a.ty
+
+-- a register that code may write: behind the first k ones, and no parameter
+pub record IsTarget (w : Written) (d : Place) (k : ℕ) : Type 0 where
+  pub place : IsPlace w d
+  pub free : w.params ≤ d.register
+  pub above : k ≤ d.register
+
+-- ---- what comes
+
+-- what `result` tells of a lane's registers comes into register d, in at most so many instructions
+pub record Brings (old new : Written) (result : Share → Result ℤ Stop) (d : Place) (u : Under) (size : ℕ) : Type 0 where
+  pub code : AddsNumber old new result d.ty d.register u.mask (length old.regs) u.free size
+  pub place : IsPlace new d
+
+-- the same into a register that was there, behind the first k ones
+abbrev pub BringsInto : (old new : Written) → (Share → Result ℤ Stop) → Place → Under → (size : ℕ) → Type 0
+BringsInto old new result d u size = (k : ℕ) → k ≤ d.register → AddsNumber old new result d.ty d.register u.mask k u.free size
+
+-- as many parameters and masks, and at most so many registers more
+pub record HasBase (old new : Emitter) (more : ℕ) : Type 0 where
+  pub params : new.params ≡ old.params
+  pub masks : new.masks ≡ old.masks
+  pub least : length old.regs.items ≤ length new.regs.items
+  pub most : length new.regs.items ≤ length old.regs.items + more
