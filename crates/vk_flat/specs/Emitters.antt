@@ -1,12 +1,15 @@
 -- What an emitter has written, and what its methods add.
-use Rattle.std.specs.Prelude.{◌≡◌, ◌≢◌, ℕ, ◌+◌, ◌<◌, ◌≤◌, max, List, [], ◌∷◌, ◌++◌, length, map, Some, ℤ, Result}
+use Rattle.std.specs.Prelude.{◌≡◌, ◌≢◌, ℕ, ◌+◌, ◌<◌, ◌≤◌, max, true, false, List, [], ◌∷◌, ◌++◌, length, map, Some, ℤ, Result}
 use Rattle.vk_types.specs.declared.types.Stop.{Stop}
 use Rattle.vk_types.specs.declared.types.Ty.{Ty}
+use Rattle.vk_types.specs.declared.types.Op2.{Op2}
+use Rattle.vk_types.specs.Formats.{type_number}
 use Rattle.vk_kinds.specs.declared.heads.CType.TheVariants.{Int}
 use Rattle.vk_code.specs.declared.instruction.Instr.{Instr}
 use Rattle.vk_code.specs.declared.instruction.Operation.{Operation}
-use Rattle.vk_code.specs.Instruction.{operation_of}
+use Rattle.vk_code.specs.Instruction.{IsArithmetic, operation_of}
 use Rattle.vk_code.specs.Listing.{call_site_of}
+use Rattle.vk_code.specs.Valid.{is_promoted, is_shift}
 use Rattle.vk_lane.specs.Places.{Share}
 use Rattle.vk_construct.specs.Adds.{AddsNumber, HasType, Written}
 use Rattle.vk_flat.specs.declared.emitter.Emitter.{Emitter}
@@ -37,23 +40,22 @@ pub record HasPut (old new : Written) (m : ℕ) (o : Operation) : Type 0 where
   pub operation : operation_of instr ≡ Some o
   pub written : new ≡ with_instr old instr
 
--- ---- where code comes
-
--- the parameters have registers, the running mask is there, and masks from the free one on are those that code may write
-pub record IsOpen (w : Written) (u : Under) : Type 0 where
-  pub params : w.params ≤ length w.regs
-  pub running : u.mask < u.free
-  pub masks : u.free ≤ w.masks
+-- ---- registers
 
 -- a register of the type that it is said to have
 abbrev pub IsPlace : Written → Place → Type 0
 IsPlace w a = HasType w a.register a.ty
 
--- a register that code may write: behind the first k ones, and no parameter
-pub record IsTarget (w : Written) (d : Place) (k : ℕ) : Type 0 where
-  pub place : IsPlace w d
-  pub free : w.params ≤ d.register
-  pub above : k ≤ d.register
+-- ---- operators
+
+-- a type that integer promotions keep
+abbrev pub IsPromoted : Ty → Type 0
+IsPromoted t = is_promoted (type_number t) ≡ true
+
+-- operands of these types go with the operator, which is no comparison: a shift takes any on its right
+pub record IsOperator (op : Op2) (s t : Ty) : Type 0 where
+  pub arithmetic : IsArithmetic op
+  pub right : is_shift op ≡ false → t ≡ s
 
 -- ---- what comes
 

@@ -1,11 +1,9 @@
 // Code that is appended, a register for each value.
 
-ghost use Rattle.std.specs.Prelude.{◌≡◌, ℕ, ◌+◌, ◌≤◌, ◌<◌, length, OnOk, IfOk, Ok, pos};
+ghost use Rattle.std.specs.Prelude.{◌≡◌, ◌<◌, length, OnOk, IfOk, pos};
 ghost use Rattle.vk_types.specs.Numbers.{IsCanonical, number_of, wrap_number};
 ghost use Rattle.vk_code.specs.Instruction.{IsEncodable};
-ghost use Rattle.vk_construct.specs.Adds.{Adds, Splits};
-ghost use Rattle.vk_construct.specs.Applies.{one};
-ghost use Rattle.vk_flat.specs.Emitters.{Brings, BringsInto, HasPut, IsOpen, IsPlace, IsTarget, with_masks, with_register, written_of};
+ghost use Rattle.vk_flat.specs.Emitters.{HasPut, with_masks, with_register, written_of};
 
 use std::alloc::AllocError;
 use vk_code::{Instr, Operation, Slot};
@@ -41,8 +39,9 @@ impl Emitter {
     /// A new register.
     pub fn fresh(&mut self, ty: Ty) -> Result<Place, AllocError>
         requires room { length self.old.regs.items < 65536 }
-        ensures written { OnOk result (written_of self.new ≡ with_register (written_of self.old) ty) }
-        ensures place { IfOk result (λ d. d ≡ record { register = length self.old.regs.items; ty = ty }) }
+        ensures written { IfOk result (λ d. written_of self.new ≡ with_register (written_of self.old) d.ty) }
+        ensures register { IfOk result (λ d. d.register ≡ length self.old.regs.items) }
+        ensures ty { IfOk result (λ d. d.ty ≡ ty) }
     {
         let register = self.regs.len() as u16;
         self.regs.push(CType::Int(ty))?;

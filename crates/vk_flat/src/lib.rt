@@ -3,5 +3,6 @@
 
 pub mod emitter;
 pub mod instructions;
+pub mod operators;
 
 pub use emitter::{Emitter, Place, Under};
