@@ -1,24 +1,26 @@
 -- Operators that convert their operands first.
-use Rattle.std.proofs.Common.{arith, sym, ◌≡◌, ℕ, ◌+◌, ◌<◌, ◌≤◌, length, subst, ap, ℤ, pos, Result, Ok}
+use Rattle.std.proofs.Common.{arith, sym, ◌≡◌, ℕ, ◌+◌, ◌<◌, ◌≤◌, length, cond, subst, ap, ◌∙◌, ℤ, pos, Result, Ok}
 use Rattle.vk_types.specs.declared.types.Ty.{Ty}
+use Rattle.vk_types.specs.declared.types.Ty.TheVariants.{I32}
 use Rattle.vk_types.specs.declared.types.Op1.{Op1}
 use Rattle.vk_types.specs.declared.types.Op2.{Op2}
 use Rattle.vk_types.specs.declared.types.Op2.TheVariants.{Eq}
 use Rattle.vk_types.specs.declared.types.Stop.{Stop}
-use Rattle.vk_types.specs.Numbers.{wrap_number}
+use Rattle.vk_types.specs.Numbers.{IsInRange, wrap_number}
 use Rattle.vk_types.specs.Conversions.{common_type, promoted}
 use Rattle.vk_types.specs.Operators.{op1_number, op2_number}
 use Rattle.vk_kinds.specs.declared.heads.CType.TheVariants.{Int}
 use Rattle.vk_ast.specs.declared.expressions.UnOp.TheVariants.{LogNot}
-use Rattle.vk_numbers.specs.Operators.{result_in, shift_result, unary_number}
+use Rattle.vk_numbers.specs.Operators.{is_on, result_in, shift_result, unary_number}
+use Rattle.vk_numbers.proofs.Numbers.{wrap_keeps}
 use Rattle.vk_lane.specs.Places.{Share}
-use Rattle.vk_construct.specs.Adds.{AddsNumber, Written}
+use Rattle.vk_construct.specs.Adds.{Adds, AddsNumber, TestsOn, Written}
 use Rattle.vk_construct.specs.Applies.{number_at, one, two}
 use Rattle.vk_construct.proofs.Adding.{adds_weaken, is_inside, no_fewer, type_kept}
-use Rattle.vk_construct.proofs.Operators.{common_symmetric, converted_both, converted_left, converted_one, converted_with}
+use Rattle.vk_construct.proofs.Operators.{adds_chosen, common_symmetric, converted_both, converted_left, converted_one, converted_with}
 use Rattle.vk_flat.specs.declared.emitter.Place.{Place}
 use Rattle.vk_flat.specs.declared.emitter.Under.{Under}
-use Rattle.vk_flat.specs.Emitters.{Brings, IsPlace}
+use Rattle.vk_flat.specs.Emitters.{Brings, BringsInto, IsPlace}
 
 inside : (w : Written) (a : Place) → IsPlace w a → a.register < length w.regs
 inside w a h = is_inside w.regs a.register (Int a.ty) h
@@ -107,3 +109,19 @@ promoted_brings a b c op x p d u t is ep lm first second =
 pub exchanged : (a b : Written) (op : Op2) (x y d : Place) (u : Under) (size : ℕ) → Brings a b (two (result_in op (common_type y.ty x.ty)) y.ty y.register x.ty x.register) d u size →
     Brings a b (λ h. result_in op (common_type x.ty y.ty) (number_at y.ty y.register h) (number_at x.ty x.register h)) d u size
 exchanged a b op x y d u size h = subst (λ t. Brings a b (λ k. result_in op t (number_at y.ty y.register k) (number_at x.ty x.register k)) d u size) (common_symmetric y.ty x.ty) h
+
+-- ---- conditions as numbers
+
+pub fits_zero : IsInRange I32 (pos 0)
+fits_zero = grind arith
+
+pub fits_one : IsInRange I32 (pos 1)
+fits_one = grind arith
+
+pub truth_brings : (a b c e : Written) (x d : Place) (u : Under) → d.ty ≡ I32 → u.mask < u.free → IsPlace a x → Adds a b (TestsOn u.mask u.free x.register) 1 0 →
+    BringsInto b c (λ h. Ok (wrap_number d.ty (pos 0))) d (record { mask = u.mask; free = u.free + 1 }) 1 → BringsInto c e (λ h. Ok (wrap_number d.ty (pos 1))) d (record { mask = u.free; free = u.free + 1 }) 1 →
+    BringsInto a e (one (λ z. Ok (cond (is_on z) (pos 1) (pos 0))) x.ty x.register) d u 3
+truth_brings a b c e x d u int lm operand test zero_ one_ k le =
+    adds_chosen a b c e x.ty d.ty (pos 1) (pos 0) x.register d.register u.mask k u.free 1 1 lm operand test
+    (subst (λ z. AddsNumber b c (λ h. Ok z) d.ty d.register u.mask k (u.free + 1) 1) (ap (λ t. wrap_number t (pos 0)) int ∙ wrap_keeps I32 (pos 0) fits_zero) (zero_ k le))
+    (subst (λ z. AddsNumber c e (λ h. Ok z) d.ty d.register u.free k (u.free + 1) 1) (ap (λ t. wrap_number t (pos 1)) int ∙ wrap_keeps I32 (pos 1) fits_one) (one_ k le))

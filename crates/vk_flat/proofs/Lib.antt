@@ -1,3 +1,4 @@
 pub mod Grown
 pub mod Steps
 pub mod Joined
+pub mod Emitting

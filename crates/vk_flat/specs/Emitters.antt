@@ -11,7 +11,7 @@ use Rattle.vk_code.specs.Instruction.{IsArithmetic, operation_of}
 use Rattle.vk_code.specs.Listing.{call_site_of}
 use Rattle.vk_code.specs.Valid.{is_promoted, is_shift}
 use Rattle.vk_lane.specs.Places.{Share}
-use Rattle.vk_construct.specs.Adds.{AddsNumber, HasType, Written}
+use Rattle.vk_construct.specs.Adds.{Adds, AddsNumber, HasType, Splits, Written}
 use Rattle.vk_flat.specs.declared.emitter.Emitter.{Emitter}
 use Rattle.vk_flat.specs.declared.emitter.Place.{Place}
 use Rattle.vk_flat.specs.declared.emitter.Under.{Under}
@@ -74,3 +74,18 @@ pub record HasBase (old new : Emitter) (more : ℕ) : Type 0 where
   pub masks : new.masks ≡ old.masks
   pub least : length old.regs.items ≤ length new.regs.items
   pub most : length new.regs.items ≤ length old.regs.items + more
+
+-- ---- two cases
+
+-- under the mask of the first case, and under that of the second
+abbrev pub first_case : Under → Under
+first_case u = record { mask = u.free; free = u.free + 2 }
+
+abbrev pub second_case : Under → Under
+second_case u = record { mask = u.free + 1; free = u.free + 2 }
+
+-- the lanes are split by the number in `a`, and there is a new register for the result of both cases
+pub record HasCases (old new : Written) (a d : Place) (u : Under) : Type 0 where
+  pub code : Adds old new (Splits u.mask u.free a.register) 2 0
+  pub place : IsPlace new d
+  pub above : length old.regs ≤ d.register

@@ -2,7 +2,10 @@
 #![tactic(auto)]
 
 pub mod emitter;
+pub mod expression;
 pub mod instructions;
+pub mod locals;
+pub mod logical;
 pub mod operators;
 
 pub use emitter::{Emitter, Place, Under};
