@@ -185,3 +185,8 @@ cases_code a m b c n d x u em eb at h = record {
   place = adds_kept b c _ 2 0 h d (new_place m b d eb at);
   above = subst (λ w. length w.regs ≤ d.register) em (subst (λ k. length m.regs ≤ k) (sym at) (omega arith)) ;
 }
+
+-- ---- types
+
+pub name_type : (locals : List Local) (scope : Scope) (tb : Table) (l k : ℕ) (id : NameId) (x : Local) → local_named locals id ≡ Some x → AreLocals locals scope tb → HasNumber scope (name l k id) x.place.ty
+name_type locals scope tb l k id x is names = let v = names.each id x is in number_name scope l k id v.variable x.place.ty v.named v.ctype

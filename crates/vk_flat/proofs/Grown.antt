@@ -22,6 +22,10 @@ pub if_ok_map : {A E : Type 0} {P Q : A → Type 0} → (r : Result A E) → ((a
 if_ok_map (Ok a) f p = f a p
 if_ok_map (Err e) f p = p
 
+pub if_ok_both : {A E : Type 0} {P Q R : A → Type 0} → (r : Result A E) → ((a : A) → P a → Q a → R a) → IfOk r P → IfOk r Q → IfOk r R
+if_ok_both (Ok a) f p q = f a p q
+if_ok_both (Err e) f p q = p
+
 -- ---- one instruction
 
 module _ (a b : Written) (m : ℕ) (o : Operation) (h : HasPut a b m o) where

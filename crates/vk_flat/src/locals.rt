@@ -1,8 +1,8 @@
 // Names of integers in registers.
 
-ghost use Rattle.std.specs.Prelude.{◌≡◌, IsTrue};
+ghost use Rattle.std.specs.Prelude.{◌≡◌, cond, IsTrue, None, Some};
 ghost use Rattle.vk_ast.specs.Tree.{expr_of};
-ghost use Rattle.vk_rules_book.specs.Scopes.{Scope};
+ghost use Rattle.vk_rules_book.specs.Scopes.{Scope, same_name};
 ghost use Rattle.vk_construct.specs.Computes.{Table};
 ghost use Rattle.vk_construct.specs.Trees.{HasNumber};
 ghost use Rattle.vk_flat.specs.Locals.{AreLocals, is_numeric, local_named};
@@ -23,13 +23,24 @@ pub struct Local {
 pub fn local_named(locals: &[Local], id: NameId) -> Option<Local>
     ensures { result ≡ local_named locals.now id }
 {
-    let mut found = None;
-    for local in locals {
-        if local.name.0 == id.0 {
-            found = Some(*local);
-        }
+    let [first, rest @ ..] = locals else {
+        return None;
+    };
+    match local_named(rest, id) {
+        Some(local) => Some(local),
+        None => alone(first, id),
     }
-    found
+}
+
+// The local, where it has this name.
+fn alone(local: &Local, id: NameId) -> Option<Local>
+    ensures { result ≡ cond (same_name local.now.name id) (Some local.now) None }
+{
+    if local.name.0 == id.0 {
+        Some(*local)
+    } else {
+        None
+    }
 }
 
 /// The type of the number that a numeric expression gives.

@@ -81,8 +81,8 @@ impl Emitter {
 impl Under {
     /// Where the code of the first case comes.
     pub fn first_case(self) -> Under
-        requires { self.entry.free + 2 < 65536 }
-        ensures { result ≡ first_case self.entry }
+        requires { self.free + 2 < 65536 }
+        ensures { result ≡ first_case self }
     {
         Under {
             mask: self.free,
@@ -92,8 +92,8 @@ impl Under {
 
     /// Where the code of the second case comes.
     pub fn second_case(self) -> Under
-        requires { self.entry.free + 2 < 65536 }
-        ensures { result ≡ second_case self.entry }
+        requires { self.free + 2 < 65536 }
+        ensures { result ≡ second_case self }
     {
         Under {
             mask: self.free + 1,
