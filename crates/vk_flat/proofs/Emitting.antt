@@ -1,5 +1,5 @@
 -- The code of a node, from that of its parts.
-use Rattle.std.proofs.Common.{arith, sym, ◌≡◌, ℕ, ◌+◌, ◌*◌, ◌<◌, ◌≤◌, false, List, length, cond, refl, subst, ap, ◌∙◌, Some, None, ℤ, pos, Result, Ok}
+use Rattle.std.proofs.Common.{arith, sym, ◌≡◌, ℕ, ◌+◌, ◌*◌, ◌<◌, ◌≤◌, false, List, length, cond, refl, subst, ap, ◌∙◌, Option, Some, None, ℤ, pos, Result, Ok}
 use Rattle.vk_types.specs.declared.types.Ty.{Ty}
 use Rattle.vk_types.specs.declared.types.Ty.TheVariants.{I32}
 use Rattle.vk_types.specs.declared.types.Stop.{Stop}
@@ -16,6 +16,7 @@ use Rattle.vk_numbers.specs.Operators.{binary_number, is_on, unary_number}
 use Rattle.vk_numbers.specs.Types.{binary_type, unary_type}
 use Rattle.vk_numbers.proofs.Numbers.{wrap_keeps}
 use Rattle.vk_rules_book.specs.Scopes.{Scope}
+use Rattle.vk_rules_book.specs.Typings.{number_type, typing_of}
 use Rattle.vk_lane.specs.Entries.{LaneCall}
 use Rattle.vk_lane.specs.Pieces.{Change}
 use Rattle.vk_lane.specs.Places.{Share}
@@ -41,7 +42,7 @@ use Rattle.vk_flat.proofs.Joined.{fits_one, fits_zero}
 pub adds_kept : (a b : Written) (F : LaneCall → Change) (size depth : ℕ) → Adds a b F size depth → (x : Place) → IsPlace a x → IsPlace b x
 adds_kept a b F size depth h x p = type_kept a b F size depth x.register (Int x.ty) h p
 
-into_kept : (a b : Written) (result : Share → Result ℤ Stop) (d : Place) (u : Under) (size : ℕ) → BringsInto a b result d u size → (x : Place) → IsPlace a x → IsPlace b x
+pub into_kept : (a b : Written) (result : Share → Result ℤ Stop) (d : Place) (u : Under) (size : ℕ) → BringsInto a b result d u size → (x : Place) → IsPlace a x → IsPlace b x
 into_kept a b result d u size h x p = adds_kept a b _ size 0 (h 0 (omega arith)) x p
 
 pub places_kept : (a b : Written) (locals : List Local) → ((x : Place) → IsPlace a x → IsPlace b x) → ArePlaces a locals → ArePlaces b locals
@@ -151,6 +152,13 @@ module _ (c0 c1 c3 c4 c5 e : Written) (locals : List Local) (l k : ℕ) (left ri
     kept = λ y p. into_kept e c5 _ d _ 3 fourth y (third.kept y (into_kept c3 c4 _ d _ 1 second y (adds_kept c1 c3 _ 2 0 cases.code y (first.kept y p))));
   }
 
+-- an expression has one type
+same_number : (scope : Scope) (e : Tree) (s t : Ty) → HasNumber scope e s → HasNumber scope e t → s ≡ t
+same_number scope e s t a b = some_same (number_type (typing_of scope e)) s t a b
+  where
+    some_same : (o : Option Ty) (x y : Ty) → o ≡ Some x → o ≡ Some y → x ≡ y
+    some_same o x y p q = cc
+
 module _ (c0 c1 c3 x4 c4 x5 c5 : Written) (locals : List Local) (l k : ℕ) (test first second : Tree) (a b c d : Place) (u : Under) (s t : Ty) (lm : u.mask < u.free) (same : d.ty ≡ common_type s t)
     (le : length c0.regs ≤ length c1.regs) (ts : (scope : Scope) (tb : Table) → AreLocals locals scope tb → HasNumber scope first s) (tt : (scope : Scope) (tb : Table) → AreLocals locals scope tb → HasNumber scope second t)
     (one_ : Emits c0 c1 locals test a u) (cases : HasCases c1 c3 a d u) (two_ : Emits c3 x4 locals first b (first_case u)) (three : BringsInto x4 c4 (one (λ z. Ok (wrap_number d.ty z)) b.ty b.register) d (first_case u) 1)
@@ -161,9 +169,9 @@ module _ (c0 c1 c3 x4 c4 x5 c5 : Written) (locals : List Local) (l k : ℕ) (tes
   converted : (p q : Written) (x : Place) (v : Under) → BringsInto p q (one (λ z. Ok (wrap_number d.ty z)) x.ty x.register) d v 1 → AddsNumber p q (one (λ z. Ok (wrap_number (common_type s t) z)) x.ty x.register) (common_type s t) d.register v.mask (length c0.regs) v.free 1
   converted p q x v h = subst (λ w. AddsNumber p q (one (λ z. Ok (wrap_number w z)) x.ty x.register) w d.register v.mask (length c0.regs) v.free 1) same (h (length c0.regs) inside)
 
-  pub choice_emits : b.ty ≡ s → c.ty ≡ t → Emits c0 c5 locals (choice l k test first second) d u
-  choice_emits eb ec = record {
-    code = λ scope tb names it. let p = one_.code scope tb names it in let q = table_then c1 c3 _ 2 0 tb cases.code (table_then c0 c1 _ _ 0 tb p it) in let r = two_.code scope tb names q in
+  pub choice_emits : Emits c0 c5 locals (choice l k test first second) d u
+  choice_emits = record {
+    code = λ scope tb names it. let eb = same_number scope first b.ty s (two_.typed scope tb names) (ts scope tb names) in let ec = same_number scope second c.ty t (four.typed scope tb names) (tt scope tb names) in let p = one_.code scope tb names it in let q = table_then c1 c3 _ 2 0 tb cases.code (table_then c0 c1 _ _ 0 tb p it) in let r = two_.code scope tb names q in
         let w = table_then x4 c4 _ 1 0 tb (three 0 (omega arith)) (table_then c3 x4 _ _ 0 tb r q) in
         subst (λ v. AddsTree c0 c5 scope tb (choice l k test first second) v d.register u.mask u.free) (sym same)
         (tree_choice c0 c1 c3 x4 c4 x5 c5 scope tb l k a.ty s t test first second a.register b.register c.register d.register u.mask u.free it lm (ts scope tb names) (tt scope tb names) one_.place p cases.code
