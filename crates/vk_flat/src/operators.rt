@@ -139,6 +139,7 @@ impl Emitter {
         ensures code { IfOk result (λ d. Brings (written_of self.old) (written_of self.new) (two (binary_number op a.ty b.ty) a.ty a.register b.ty b.register) d under 3) }
         ensures ty { IfOk result (λ d. d.ty ≡ binary_type op a.ty b.ty) }
         ensures base { OnOk result (HasBase self.old self.new 3) }
+        ensures plain { is_logical op ≡ false }
     {
         match op {
             BinOp::Add => self.in_common(Op2::Add, a, b, under),

@@ -1,7 +1,6 @@
 -- The code of each kind of expression.
-use Rattle.std.proofs.Common.{rules, sym, ◌≡◌, ◌∙◌, ◌+◌, ◌&&◌, false, length}
+use Rattle.std.proofs.Common.{rules, sym, ◌∙◌, ◌+◌, ◌&&◌, length}
 use Rattle.vk_ast.specs.Tree.{expr_of, nodes_of}
-use Rattle.vk_numbers.specs.Laws.{is_logical}
 use Rattle.vk_flat.specs.Emitters.{written_of}
 use Rattle.vk_flat.specs.Locals.{is_numeric}
 use Rattle.vk_flat.proofs.Grown.{if_ok_both, on_ok}
@@ -39,7 +38,6 @@ emit-returns-in_ok-b-in-Binary n c =
     let three = c.binary.new.self in
     let left = expr_of c.in-Binary.left.value in
     let right = expr_of c.in-Binary.right.value in
-    let plain : is_logical c.in-Binary.op ≡ false = c.in-Binary.op-in-Add-1-is in
     let first = rw c.deref-in-Binary.ensures at c.in_ok-a-in-Binary.ensures.code in
     let second = rw c.deref-in-Binary-2.ensures at c.in_ok-b-in-Binary.ensures.code in
     let few_first = rw c.deref-in-Binary.ensures at c.in_ok-a-in-Binary.ensures.count in
@@ -47,7 +45,7 @@ emit-returns-in_ok-b-in-Binary n c =
     rw c.in-Binary.is
     record {
       code = if_ok_both c.binary.result (λ d h t. binary_emits (written_of old) (written_of one) (written_of two) (written_of three) c.args.locals.now c.args.e.now.line c.args.e.now.token c.in-Binary.op left right
-          c.in_ok-a-in-Binary.a c.in_ok-b-in-Binary.b d c.args.under c.requires.running plain t first second h) c.binary.ensures.code c.binary.ensures.ty;
+          c.in_ok-a-in-Binary.a c.in_ok-b-in-Binary.b d c.args.under c.requires.running c.binary.ensures.plain t first second h) c.binary.ensures.code c.binary.ensures.ty;
       params = on_ok c.binary.result (λ h. h.params ∙ (c.in_ok-b-in-Binary.ensures.params ∙ c.in_ok-a-in-Binary.ensures.params)) c.binary.ensures.base;
       masks = on_ok c.binary.result (λ h. masks_after old.masks one.masks two.masks three.masks c.in_ok-a-in-Binary.ensures.masks c.in_ok-b-in-Binary.ensures.masks h.masks) c.binary.ensures.base;
       registers = on_ok c.binary.result (λ h. registers_after (length old.regs.items) (length one.regs.items) (length two.regs.items) (length three.regs.items) c.in_ok-a-in-Binary.ensures.registers c.in_ok-b-in-Binary.ensures.registers h.least) c.binary.ensures.base;
