@@ -1,5 +1,5 @@
 -- The code of a node, from that of its parts.
-use Rattle.std.proofs.Common.{arith, sym, ◌≡◌, ℕ, ◌+◌, ◌*◌, ◌<◌, ◌≤◌, false, List, length, cond, refl, subst, ap, ◌∙◌, Option, Some, None, ℤ, pos, Result, Ok}
+use Rattle.std.proofs.Common.{arith, sym, ◌≡◌, ℕ, ◌+◌, ◌<◌, ◌≤◌, false, List, length, cond, subst, ap, ◌∙◌, Option, Some, ℤ, pos, Result, Ok}
 use Rattle.vk_types.specs.declared.types.Ty.{Ty}
 use Rattle.vk_types.specs.declared.types.Ty.TheVariants.{I32}
 use Rattle.vk_types.specs.declared.types.Stop.{Stop}
@@ -10,7 +10,7 @@ use Rattle.vk_ast.specs.declared.names.NameId.{NameId}
 use Rattle.vk_ast.specs.declared.expressions.UnOp.{UnOp}
 use Rattle.vk_ast.specs.declared.expressions.BinOp.{BinOp}
 use Rattle.vk_ast.specs.declared.expressions.BinOp.TheVariants.{LogAnd, LogOr}
-use Rattle.vk_ast.specs.Tree.{Tree, binary, cast, choice, int, name, nodes_of, unary}
+use Rattle.vk_ast.specs.Tree.{Tree, binary, cast, choice, int, name, unary}
 use Rattle.vk_numbers.specs.Laws.{is_logical}
 use Rattle.vk_numbers.specs.Operators.{binary_number, is_on, unary_number}
 use Rattle.vk_numbers.specs.Types.{binary_type, unary_type}
@@ -20,7 +20,7 @@ use Rattle.vk_rules_book.specs.Typings.{number_type, typing_of}
 use Rattle.vk_lane.specs.Entries.{LaneCall}
 use Rattle.vk_lane.specs.Pieces.{Change}
 use Rattle.vk_lane.specs.Places.{Share}
-use Rattle.vk_construct.specs.Adds.{Adds, AddsNumber, HasType, IsTableOf, Splits, Written}
+use Rattle.vk_construct.specs.Adds.{Adds, AddsNumber, IsTableOf, Splits, Written}
 use Rattle.vk_construct.specs.Applies.{one, two}
 use Rattle.vk_construct.specs.Computes.{Table}
 use Rattle.vk_construct.specs.Trees.{AddsTree, HasNumber}
@@ -191,7 +191,7 @@ pub cases_code : (a m b c : Written) (n : ℕ) (d x : Place) (u : Under) → m �
 cases_code a m b c n d x u em eb at h = record {
   code = masks_then a m c n _ 2 0 em (fresh_then m b d.ty eb c _ 2 0 h);
   place = adds_kept b c _ 2 0 h d (new_place m b d eb at);
-  above = subst (λ w. length w.regs ≤ d.register) em (subst (λ k. length m.regs ≤ k) (sym at) (omega arith)) ;
+  above = subst (λ w. length w.regs ≤ d.register) em (subst (λ k. length m.regs ≤ k) (sym at) (omega arith));
 }
 
 -- ---- types

@@ -1,8 +1,6 @@
 -- Registers, masks and instructions that come behind.
-use Rattle.std.proofs.Common.{arith, sym, ◌≡◌, ℕ, ◌+◌, ◌<◌, ◌≤◌, max, List, [], ◌∷◌, ◌++◌, length, refl, subst, ap, ◌∙◌, append_assoc, append-nil, Result, Ok, Err, IfOk, OnOk}
-use Rattle.std.proofs.lemmas.List.{length-append}
+use Rattle.std.proofs.Common.{arith, sym, ◌≡◌, ℕ, ◌<◌, ◌≤◌, max, [], ◌∷◌, length, subst, ap, ◌∙◌, append_assoc, append-nil, Result, Ok, Err, IfOk, OnOk}
 use Rattle.vk_types.specs.declared.types.Ty.{Ty}
-use Rattle.vk_kinds.specs.declared.heads.CType.{CType}
 use Rattle.vk_kinds.specs.declared.heads.CType.TheVariants.{Int}
 use Rattle.vk_code.specs.declared.instruction.Operation.{Operation}
 use Rattle.vk_lane.specs.Entries.{LaneCall}

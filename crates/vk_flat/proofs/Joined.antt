@@ -1,5 +1,5 @@
 -- Operators that convert their operands first.
-use Rattle.std.proofs.Common.{arith, sym, ◌≡◌, ℕ, ◌+◌, ◌<◌, ◌≤◌, length, cond, subst, ap, ◌∙◌, ℤ, pos, Result, Ok}
+use Rattle.std.proofs.Common.{arith, ◌≡◌, ℕ, ◌+◌, ◌<◌, ◌≤◌, length, cond, subst, ap, ◌∙◌, ℤ, pos, Result, Ok}
 use Rattle.vk_types.specs.declared.types.Ty.{Ty}
 use Rattle.vk_types.specs.declared.types.Ty.TheVariants.{I32}
 use Rattle.vk_types.specs.declared.types.Op1.{Op1}
@@ -42,7 +42,7 @@ pub both_brings : (a b c e : Written) (g : ℤ → ℤ → Result ℤ Stop) (t :
     Brings a e (two (λ m n. g (wrap_number t m) (wrap_number t n)) x.ty x.register y.ty y.register) d u 3
 both_brings a b c e g t x y p q d u lm right ep eq one_ two_ three = record {
   code = converted_both a b c e g x.ty y.ty t d.ty x.register y.register p.register q.register d.register u.mask (length a.regs) (length b.regs) (length c.regs) u.free 1 1 1 lm
-    (more a b _ p u 1 one_) (more b c _ q u 1 two_) (inside a y right) (inside b p one_.place) (as_type a b p t u x ep one_) (as_type b c q t u y eq two_) three.code;
+      (more a b _ p u 1 one_) (more b c _ q u 1 two_) (inside a y right) (inside b p one_.place) (as_type a b p t u x ep one_) (as_type b c q t u y eq two_) three.code;
   place = three.place;
 }
 
@@ -66,7 +66,7 @@ pub with_brings : (a b c e : Written) (g : ℤ → ℤ → Result ℤ Stop) (n :
     Brings a e (one (λ z. g (wrap_number t z) n) x.ty x.register) d u 3
 with_brings a b c e g n t x p q d u lm ep eq one_ two_ three = record {
   code = converted_with a b c e g n x.ty t d.ty x.register p.register q.register d.register u.mask (length a.regs) (length b.regs) (length c.regs) u.free 1 1 1 lm (more a b _ p u 1 one_) (more b c _ q u 1 two_) (inside b p one_.place)
-    (as_type a b p t u x ep one_) (subst (λ v. AddsNumber b c (λ h. Ok n) v q.register u.mask (length b.regs) u.free 1) eq two_.code) three.code;
+      (as_type a b p t u x ep one_) (subst (λ v. AddsNumber b c (λ h. Ok n) v q.register u.mask (length b.regs) u.free 1) eq two_.code) three.code;
   place = three.place;
 }
 

@@ -1,5 +1,5 @@
 -- What one instruction brings.
-use Rattle.std.proofs.Common.{arith, sym, ◌≡◌, ℕ, ◌+◌, ◌<◌, ◌≤◌, false, List, [], length, refl, subst, ap, ◌∙◌, ℤ, pos, Ok, Result}
+use Rattle.std.proofs.Common.{arith, sym, ◌≡◌, ℕ, ◌+◌, ◌<◌, ◌≤◌, [], length, refl, subst, ap, ◌∙◌, ℤ, pos, Ok, Result}
 use Rattle.vk_types.specs.declared.types.Ty.{Ty}
 use Rattle.vk_types.specs.declared.types.Ty.TheVariants.{I32}
 use Rattle.vk_types.specs.declared.types.Op1.{Op1}
@@ -16,7 +16,7 @@ use Rattle.vk_code.specs.Instruction.{IsArithmetic, IsComparison}
 use Rattle.vk_lane.specs.Places.{Share}
 use Rattle.vk_construct.specs.Adds.{Adds, AddsNumber, HasType, LeavesOut, TestsOn, Written}
 use Rattle.vk_construct.specs.Applies.{one, two}
-use Rattle.vk_construct.proofs.Instructions.{IsFreeMask, IsTarget, adds_binary, adds_compare, adds_const, adds_convert, adds_mask_but, adds_mask_of, adds_unary, adds_unconverted}
+use Rattle.vk_construct.proofs.Instructions.{IsTarget, adds_binary, adds_compare, adds_const, adds_convert, adds_mask_but, adds_mask_of, adds_unary, adds_unconverted}
 use Rattle.vk_construct.proofs.Adding.{adds_weaken, type_kept}
 use Rattle.vk_flat.specs.declared.emitter.Place.{Place}
 use Rattle.vk_flat.specs.declared.emitter.Under.{Under}

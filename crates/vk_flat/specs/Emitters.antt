@@ -1,5 +1,5 @@
 -- What an emitter has written, and what its methods add.
-use Rattle.std.specs.Prelude.{◌≡◌, ◌≢◌, ℕ, ◌+◌, ◌<◌, ◌≤◌, max, true, false, List, [], ◌∷◌, ◌++◌, length, map, Some, ℤ, Result}
+use Rattle.std.specs.Prelude.{◌≡◌, ℕ, ◌+◌, ◌≤◌, max, true, false, [], ◌∷◌, ◌++◌, length, map, Some, ℤ, Result}
 use Rattle.vk_types.specs.declared.types.Stop.{Stop}
 use Rattle.vk_types.specs.declared.types.Ty.{Ty}
 use Rattle.vk_types.specs.declared.types.Op2.{Op2}

@@ -60,10 +60,8 @@ pub fn emit(
         ExprKind::Cond(condition, first, second) => {
             emit_choice(emitter, locals, condition, first, second, under)
         }
-        ExprKind::Index(_, _)
-        | ExprKind::Deref(_)
-        | ExprKind::Addr(_)
-        | ExprKind::Call(_, _) => unreachable!(),
+        ExprKind::Index(_, _) | ExprKind::Deref(_) | ExprKind::Addr(_) | ExprKind::Call(_, _) =>
+            unreachable!(),
     }
 }
 

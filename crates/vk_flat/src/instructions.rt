@@ -110,7 +110,13 @@ impl Emitter {
 
     /// An operator, but for comparisons, at the type of its left operand, which is a promoted one. The right operand has the same
     /// type, or stands behind a shift.
-    pub fn operate(&mut self, op: Op2, a: Place, b: Place, under: Under) -> Result<Place, AllocError>
+    pub fn operate(
+        &mut self,
+        op: Op2,
+        a: Place,
+        b: Place,
+        under: Under,
+    ) -> Result<Place, AllocError>
         requires running { under.mask < self.old.masks }
         requires params { self.old.params ≤ length self.old.regs.items }
         requires operator { IsOperator op a.ty b.ty }
@@ -137,7 +143,13 @@ impl Emitter {
     }
 
     /// A comparison of two operands of one promoted type.
-    pub fn compare(&mut self, op: Op2, a: Place, b: Place, under: Under) -> Result<Place, AllocError>
+    pub fn compare(
+        &mut self,
+        op: Op2,
+        a: Place,
+        b: Place,
+        under: Under,
+    ) -> Result<Place, AllocError>
         requires running { under.mask < self.old.masks }
         requires params { self.old.params ≤ length self.old.regs.items }
         requires comparison { IsComparison op }

@@ -66,9 +66,7 @@ pub fn type_of(locals: &[Local], e: &Expr) -> Ty
             let _condition = type_of(locals, condition);
             common(type_of(locals, first), type_of(locals, second))
         }
-        ExprKind::Index(_, _)
-        | ExprKind::Deref(_)
-        | ExprKind::Addr(_)
-        | ExprKind::Call(_, _) => unreachable!(),
+        ExprKind::Index(_, _) | ExprKind::Deref(_) | ExprKind::Addr(_) | ExprKind::Call(_, _) =>
+            unreachable!(),
     }
 }

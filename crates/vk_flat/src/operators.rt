@@ -40,7 +40,13 @@ impl Emitter {
     }
 
     // A comparison in the common type of its operands.
-    fn compare_in_common(&mut self, op: Op2, a: Place, b: Place, under: Under) -> Result<Place, AllocError>
+    fn compare_in_common(
+        &mut self,
+        op: Op2,
+        a: Place,
+        b: Place,
+        under: Under,
+    ) -> Result<Place, AllocError>
         requires running { under.mask < self.old.masks }
         requires free { under.mask < under.free }
         requires params { self.old.params ≤ length self.old.regs.items }
@@ -59,7 +65,13 @@ impl Emitter {
     }
 
     // A shift of the promoted left operand.
-    fn shift_promoted(&mut self, op: Op2, a: Place, b: Place, under: Under) -> Result<Place, AllocError>
+    fn shift_promoted(
+        &mut self,
+        op: Op2,
+        a: Place,
+        b: Place,
+        under: Under,
+    ) -> Result<Place, AllocError>
         requires running { under.mask < self.old.masks }
         requires free { under.mask < under.free }
         requires params { self.old.params ≤ length self.old.regs.items }
@@ -128,7 +140,13 @@ impl Emitter {
     }
 
     /// A binary operator (C17 6.5.5 to 6.5.12), but for `&&` and `||`.
-    pub fn binary(&mut self, op: BinOp, a: Place, b: Place, under: Under) -> Result<Place, AllocError>
+    pub fn binary(
+        &mut self,
+        op: BinOp,
+        a: Place,
+        b: Place,
+        under: Under,
+    ) -> Result<Place, AllocError>
         requires running { under.mask < self.old.masks }
         requires free { under.mask < under.free }
         requires params { self.old.params ≤ length self.old.regs.items }

@@ -61,8 +61,7 @@ emit_and-emit-requires-2 n c =
     let right = expr_of c.args.right.now in
     let locals = c.args.locals.now in
     let a = c.in_ok-a.ensures in
-    let d = c.in_ok-d.ensures in
-    (
+    let d = c.in_ok-d.ensures in (
       search rules,
       (
         second_of (is_numeric locals left) (is_numeric locals right) c.requires.numeric,
@@ -103,8 +102,7 @@ emit_or-emit-requires-2 n c =
     let locals = c.args.locals.now in
     let a = c.in_ok-a.ensures in
     let d = c.in_ok-d.ensures in
-    let e = c.in_ok-constant_into.ensures in
-    (
+    let e = c.in_ok-constant_into.ensures in (
       search rules,
       (
         second_of (is_numeric locals left) (is_numeric locals right) c.requires.numeric,
@@ -147,8 +145,7 @@ emit_choice-emit-requires-2 n c =
     let second = expr_of c.args.second.now in
     let locals = c.args.locals.now in
     let a = c.in_ok-a.ensures in
-    let d = c.in_ok-d.ensures in
-    (
+    let d = c.in_ok-d.ensures in (
       search rules,
       (
         middle_of (is_numeric locals test) (is_numeric locals first) (is_numeric locals second) c.requires.numeric,
@@ -183,8 +180,7 @@ emit_choice-emit-requires-3 n c =
     let a = c.in_ok-a.ensures in
     let d = c.in_ok-d.ensures in
     let b = c.in_ok-b.ensures in
-    let e = c.in_ok-convert_into.ensures in
-    (
+    let e = c.in_ok-convert_into.ensures in (
       search rules,
       (
         second_of (is_numeric locals test && is_numeric locals first) (is_numeric locals second) c.requires.numeric,

@@ -1,6 +1,5 @@
-use Rattle.std.proofs.Common.{sym, ◌∙◌, subst}
+use Rattle.std.proofs.Common.{sym, ◌∙◌}
 use Rattle.vk_ast.specs.Tree.{expr_of}
-use Rattle.vk_construct.specs.Trees.{HasNumber}
 use Rattle.vk_construct.proofs.Trees.{number_choice}
 use Rattle.vk_flat.proofs.Emitting.{name_type}
 use Rattle.vk_flat.proofs.locals.+type_of.Goals as goal

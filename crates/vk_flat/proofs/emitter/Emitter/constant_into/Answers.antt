@@ -1,5 +1,4 @@
-use Rattle.std.proofs.Common.{IfOk}
-use Rattle.vk_flat.specs.Emitters.{BringsInto, HasPut, written_of}
+use Rattle.vk_flat.specs.Emitters.{written_of}
 use Rattle.vk_flat.proofs.Grown.{on_ok}
 use Rattle.vk_flat.proofs.Steps.{constant_into}
 use Rattle.vk_flat.proofs.emitter.Emitter.constant_into.Goals as goal

@@ -1,5 +1,5 @@
-use Rattle.std.proofs.Common.{refl, sym, subst, ◌∙◌}
-use Rattle.vk_construct.proofs.Good.{common_is, promoted_is}
+use Rattle.std.proofs.Common.{sym, subst, ◌∙◌}
+use Rattle.vk_construct.proofs.Good.{promoted_is}
 use Rattle.vk_flat.proofs.Grown.{if_ok_map}
 use Rattle.vk_flat.proofs.Joined.{brings_kept, zero_brings}
 use Rattle.vk_flat.specs.Emitters.{IsPromoted, written_of}

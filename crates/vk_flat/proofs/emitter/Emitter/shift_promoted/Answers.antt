@@ -1,6 +1,6 @@
-use Rattle.std.proofs.Common.{refl, sym, subst, ◌∙◌}
-use Rattle.vk_construct.proofs.Good.{common_is, promoted_is}
-use Rattle.std.proofs.Common.{false, true, true≢false}
+use Rattle.std.proofs.Common.{sym, subst, ◌∙◌}
+use Rattle.vk_construct.proofs.Good.{promoted_is}
+use Rattle.std.proofs.Common.{true≢false}
 use Rattle.vk_flat.proofs.Grown.{if_ok_map}
 use Rattle.vk_flat.proofs.Joined.{brings_kept, shift_brings}
 use Rattle.vk_flat.specs.Emitters.{IsPromoted, written_of}

@@ -1,4 +1,4 @@
-use Rattle.std.proofs.Common.{arith, subst, Ok, ◌≤◌}
+use Rattle.std.proofs.Common.{arith, subst, Ok}
 use Rattle.vk_types.specs.Numbers.{wrap_number}
 use Rattle.vk_construct.specs.Applies.{one}
 use Rattle.vk_flat.specs.Emitters.{Brings, written_of}
