@@ -1,0 +1,2 @@
+pub mod Emitters
+pub mod Locals
