@@ -12,10 +12,8 @@ use Rattle.vk_format.specs.Format.{Format, Field, Refused, Whole, Left, left, fa
 use Rattle.vk_format.specs.Codec.{last, whole}
 use Rattle.vk_format.proofs.Inverse.{whole_takes}
 use Rattle.vk_format.proofs.Pieces.{advance_more, judge_advance, told_stays_at}
-use Rattle.vk_object.specs.Objects.{is_object}
 use Rattle.vk_object_format.specs.declared.rows.RawObject.{RawObject}
-use Rattle.vk_object_format.specs.Object.{object_faults, object_format, object_table}
-use Rattle.vk_object_format.specs.Values.{object_of}
+use Rattle.vk_object_format.specs.Object.{object_faults, object_table}
 use Rattle.vk_object_format.proofs.Inverse.{object_law}
 use Rattle.vk_object_laws.proofs.Ends.{tables_whole}
 use Rattle.vk_object_laws.proofs.Rows.{rows_fit}
@@ -27,7 +25,7 @@ use Rattle.vk_object_feed.specs.declared.feed.PendingFields.{PendingFields}
 use Rattle.vk_object_feed.specs.Feeds.{HasTaken, TellsFail, fed, onward, wanted_now}
 use Rattle.vk_object_feed.specs.Rows.{Next, all_fields, fields_left, fields_width}
 use Rattle.vk_object_feed.proofs.Wanted.{object_field}
-use Rattle.vk_object_codec.specs.Fields.{Came, GoesOn, IsJudged, judged, tables}
+use Rattle.vk_object_codec.specs.Fields.{Came, GoesOn, IsJudged, are_valid, faults_of, judged, tables, the_format}
 use Rattle.vk_object_codec.specs.Feeds.{IsRead, IsTold, Stands, stands_by}
 use Rattle.vk_object_codec.specs.declared.feed.ObjectFeed.{ObjectFeed}
 
@@ -65,7 +63,7 @@ came_kept f g bytes are h came = came_more f g bytes are (goes_with f g bytes ta
 
 -- the fields alone tell whether they were judged
 pub judged_same : (f g : PendingFields) → g.fields ≡ f.fields → IsJudged f → IsJudged g
-judged_same f g e h = subst (λ (x : ObjectFields). x.stage ≡ objects.Done → is_none (object_faults x.object 0) ≡ true) (sym e) h
+judged_same f g e h = subst (λ (x : ObjectFields). x.stage ≡ objects.Done → is_none (faults_of x.object) ≡ true) (sym e) h
 
 -- ---- all fields have come
 
@@ -81,13 +79,21 @@ module _ (f : PendingFields) (done : f.fields.stage ≡ objects.Done) where
   pub none_pending : f.pending.items ≡ []
   none_pending = let width : fields_width f.fields ≡ 0 = done_width in nil_from_length f.pending.items (omega (arith, f.fits, width))
 
+judged_is : (f : PendingFields) → judged f.fields.object f.at ≡ last (faults_of f.fields.object) f.fields.object
+unfolding judged
+judged_is f = refl
+
+tables_is : (f : PendingFields) → tables f.fields.object f.at ≡ Whole f.fields.object
+unfolding tables
+tables_is f = refl
+
 is_whole : Format RawObject → Bool
 is_whole (Field width next) = false
 is_whole (Refused at rule) = false
 is_whole (Whole o) = true
 
 first_field : is_whole (advance (all_fields tables) 0 []).format ≡ false
-unfolding advance all_fields is_whole
+unfolding advance all_fields is_whole tables
 first_field = refl
 
 whole_is : (o : RawObject) → is_whole (Whole o) ≡ true
@@ -97,7 +103,7 @@ whole_is o = refl
 -- where no byte has come some field is wanted
 pub fresh_judged : (f : PendingFields) → ((next : Next) → HasTaken f [] next) → IsJudged f
 fresh_judged f h = λ done.
-    absurd (false≢true (sym first_field ∙ ap (λ l. is_whole l.format) (h tables) ∙ ap is_whole (done_left f done tables) ∙ whole_is f.fields.object))
+    absurd (false≢true (sym first_field ∙ ap (λ l. is_whole l.format) (h tables) ∙ ap is_whole (done_left f done tables ∙ tables_is f) ∙ whole_is f.fields.object))
 
 none_is : (o : Option ObjectFault) → is_none o ≡ true → o ≡ None
 none_is None h = refl
@@ -108,14 +114,14 @@ unfolding advance told
 tells_last e o at rest = refl
 
 -- a condition over the tables is broken
-pub tells_fault : (f : PendingFields) (e : ObjectFault) (rest : List ℕ) → f.fields.stage ≡ objects.Done → Some e ≡ object_faults f.fields.object f.at → told (onward f judged rest) ≡ Some e
+pub tells_fault : (f : PendingFields) (e : ObjectFault) (rest : List ℕ) → f.fields.stage ≡ objects.Done → Some e ≡ faults_of f.fields.object → told (onward f judged rest) ≡ Some e
 tells_fault f e rest done broken =
-    ap (λ g. told (advance g f.at (f.pending.items ++ rest))) (done_left f done judged ∙ ap (λ o. last o f.fields.object) (sym broken))
+    ap (λ g. told (advance g f.at (f.pending.items ++ rest))) (done_left f done judged ∙ judged_is f ∙ ap (λ o. last o f.fields.object) (sym broken))
     ∙ tells_last e f.fields.object f.at (f.pending.items ++ rest)
 
 module _ (f : PendingFields) (done : f.fields.stage ≡ objects.Done) (good : IsJudged f) where
   pub done_whole : fields_left f.fields f.at judged ≡ Whole f.fields.object
-  done_whole = done_left f done judged ∙ ap (λ o. last o f.fields.object) (none_is (object_faults f.fields.object f.at) (good done))
+  done_whole = done_left f done judged ∙ judged_is f ∙ ap (λ o. last o f.fields.object) (none_is (faults_of f.fields.object) (good done))
 
   pub over_none : (bytes : List ℕ) → length bytes ≡ 0 → onward f judged bytes ≡ wanted_now f judged
   unfolding advance
@@ -145,24 +151,24 @@ quiet f wide =
 
 -- ---- what a feed stands for
 
-same_format : all_fields judged ≡ object_format
-unfolding all_fields
+same_format : all_fields judged ≡ the_format
+unfolding all_fields judged faults_of the_format
 same_format = refl
 
-judge_told : (bytes : List ℕ) (e : ObjectFault) → told (advance object_format 0 bytes) ≡ Some e → judge object_format 0 bytes ≡ Err e
+judge_told : (bytes : List ℕ) (e : ObjectFault) → told (advance the_format 0 bytes) ≡ Some e → judge the_format 0 bytes ≡ Err e
 unfolding ended
 judge_told bytes e h =
-    let l = advance object_format 0 bytes in
-    judge_advance object_format 0 bytes ∙ ap (judge l.format l.at) (sym (append-nil l.pending)) ∙ told_stays_at l.format l.at l.pending e h []
+    let l = advance the_format 0 bytes in
+    judge_advance the_format 0 bytes ∙ ap (judge l.format l.at) (sym (append-nil l.pending)) ∙ told_stays_at l.format l.at l.pending e h []
 
-at_end : (bytes : List ℕ) (e : ObjectFault) → ((rest : List ℕ) → told (advance object_format 0 (bytes ++ rest)) ≡ Some e) → told (advance object_format 0 bytes) ≡ Some e
-at_end bytes e h = subst (λ (x : List ℕ). told (advance object_format 0 x) ≡ Some e) (append-nil bytes) (h [])
+at_end : (bytes : List ℕ) (e : ObjectFault) → ((rest : List ℕ) → told (advance the_format 0 (bytes ++ rest)) ≡ Some e) → told (advance the_format 0 bytes) ≡ Some e
+at_end bytes e h = subst (λ (x : List ℕ). told (advance the_format 0 x) ≡ Some e) (append-nil bytes) (h [])
 
 failed_read : (e : ObjectFail) (f : ObjectFeed) (bytes : List ℕ) → stands_by (Some e) f bytes → IsRead (Err e) bytes
 failed_read (fails.Fault e) f bytes h = judge_told bytes e (at_end bytes e h)
 failed_read fails.Memory f bytes h = tt
 
-failed_told : (T : Type 0) (e : ObjectFail) (f : ObjectFeed) (bytes : List ℕ) → stands_by (Some e) f bytes → IsTold {T = T} (Err e) (advance object_format 0 bytes)
+failed_told : (T : Type 0) (e : ObjectFail) (f : ObjectFeed) (bytes : List ℕ) → stands_by (Some e) f bytes → IsTold {T = T} (Err e) (advance the_format 0 bytes)
 failed_told T (fails.Fault e) f bytes h = at_end bytes e h
 failed_told T fails.Memory f bytes h = tt
 
@@ -183,18 +189,18 @@ pub ends_failed : (f : ObjectFeed) (e : ObjectFail) (bytes : List ℕ) → f.fai
 ends_failed f e bytes is h = failed_read e f bytes (stands_as f bytes (Some e) is h)
 
 -- the bytes are what is still wanted of what has come
-stands_now : (f : ObjectFeed) (bytes : List ℕ) → f.failed ≡ None → Stands f bytes → advance object_format 0 bytes ≡ wanted_now f.fields judged
+stands_now : (f : ObjectFeed) (bytes : List ℕ) → f.failed ≡ None → Stands f bytes → advance the_format 0 bytes ≡ wanted_now f.fields judged
 stands_now f bytes is h = ap (λ g. advance g 0 bytes) (sym same_format) ∙ stands_as f bytes None is h
 
-judge_left : (f : ObjectFeed) (bytes : List ℕ) → f.failed ≡ None → Stands f bytes → judge object_format 0 bytes ≡ judge (fields_left f.fields.fields f.fields.at judged) f.fields.at f.fields.pending.items
+judge_left : (f : ObjectFeed) (bytes : List ℕ) → f.failed ≡ None → Stands f bytes → judge the_format 0 bytes ≡ judge (fields_left f.fields.fields f.fields.at judged) f.fields.at f.fields.pending.items
 unfolding ended
-judge_left f bytes is h = judge_advance object_format 0 bytes ∙ ap ended (stands_now f bytes is h)
+judge_left f bytes is h = judge_advance the_format 0 bytes ∙ ap ended (stands_now f bytes is h)
 
 judge_whole : (p : RawObject) (at : ℕ) → judge (Whole p) at [] ≡ Ok p
 unfolding judge
 judge_whole p at = refl
 
-pub ends_done : (f : ObjectFeed) (bytes : List ℕ) → f.failed ≡ None → f.fields.fields.stage ≡ objects.Done → IsJudged f.fields → Stands f bytes → judge object_format 0 bytes ≡ Ok f.fields.fields.object
+pub ends_done : (f : ObjectFeed) (bytes : List ℕ) → f.failed ≡ None → f.fields.fields.stage ≡ objects.Done → IsJudged f.fields → Stands f bytes → judge the_format 0 bytes ≡ Ok f.fields.fields.object
 ends_done f bytes is done good h =
     judge_left f bytes is h ∙ rw (none_pending f.fields done, done_whole f.fields done good) (judge_whole f.fields.fields.object f.fields.at)
 
@@ -202,7 +208,7 @@ judge_short : {R : Type 0} (width : ℕ) (next : List ℕ → Format R) (at : �
 unfolding judge
 judge_short width next at bytes lt = rw (lt-ltb _ _ lt) refl
 
-pub ends_short : (f : ObjectFeed) (bytes : List ℕ) → f.failed ≡ None → 0 < fields_width f.fields.fields → Stands f bytes → judge object_format 0 bytes ≡ Err (fault (f.fields.at + length f.fields.pending.items) O4)
+pub ends_short : (f : ObjectFeed) (bytes : List ℕ) → f.failed ≡ None → 0 < fields_width f.fields.fields → Stands f bytes → judge the_format 0 bytes ≡ Err (fault (f.fields.at + length f.fields.pending.items) O4)
 ends_short f bytes is wide h =
     let p = f.fields in
     let lt : length p.pending.items < fields_width p.fields = omega (arith, p.fits, wide) in
@@ -210,9 +216,9 @@ ends_short f bytes is wide h =
     ∙ ap (λ g. judge g p.at p.pending.items) (object_field p.fields p.at judged wide)
     ∙ judge_short (fields_width p.fields) (taken (fields_left p.fields p.at judged)) p.at p.pending.items lt
 
-goes_on : (f : ObjectFeed) (bytes piece : List ℕ) → f.failed ≡ None → Stands f bytes → advance object_format 0 (bytes ++ piece) ≡ onward f.fields judged piece
+goes_on : (f : ObjectFeed) (bytes piece : List ℕ) → f.failed ≡ None → Stands f bytes → advance the_format 0 (bytes ++ piece) ≡ onward f.fields judged piece
 unfolding more
-goes_on f bytes piece is h = advance_more object_format 0 bytes piece ∙ ap (λ l. more l piece) (stands_now f bytes is h)
+goes_on f bytes piece is h = advance_more the_format 0 bytes piece ∙ ap (λ l. more l piece) (stands_now f bytes is h)
 
 pub feeds : {T : Type 0} (r : Result T ObjectFail) (f g : ObjectFeed) (bytes piece : List ℕ) → f.failed ≡ None
     → OnOk r (onward f.fields judged piece ≡ wanted_now g.fields judged) → OnOk r (g.failed ≡ None) → IfErr r (λ e. g.failed ≡ Some e)
@@ -224,14 +230,14 @@ feeds (Err (fails.Fault e)) f g bytes piece is ok none failed err h =
 feeds (Err fails.Memory) f g bytes piece is ok none failed err h = as_stands g (bytes ++ piece) (Some fails.Memory) failed tt
 
 pub tells : {T : Type 0} (r : Result T ObjectFail) (g : ObjectFeed) (bytes : List ℕ) → OnOk r (told (wanted_now g.fields judged) ≡ None) → OnOk r (g.failed ≡ None)
-    → IfErr r (λ e. g.failed ≡ Some e) → Stands g bytes → IsTold r (advance object_format 0 bytes)
+    → IfErr r (λ e. g.failed ≡ Some e) → Stands g bytes → IsTold r (advance the_format 0 bytes)
 tells (Ok u) g bytes quiet none failed h = ap told (stands_now g bytes none h) ∙ quiet
 tells {T = T} (Err e) g bytes quiet none failed h = failed_told T e g bytes (stands_as g bytes (Some e) failed h)
 
 pub feeds_failed : (f : ObjectFeed) (e : ObjectFail) (bytes piece : List ℕ) → f.failed ≡ Some e → Stands f bytes → Stands f (bytes ++ piece)
 feeds_failed f e bytes piece is h = as_stands f (bytes ++ piece) (Some e) is (failed_on e f bytes piece (stands_as f bytes (Some e) is h))
 
-pub tells_failed : (T : Type 0) (f : ObjectFeed) (e : ObjectFail) (bytes : List ℕ) → f.failed ≡ Some e → Stands f bytes → IsTold {T = T} (Err e) (advance object_format 0 bytes)
+pub tells_failed : (T : Type 0) (f : ObjectFeed) (e : ObjectFail) (bytes : List ℕ) → f.failed ≡ Some e → Stands f bytes → IsTold {T = T} (Err e) (advance the_format 0 bytes)
 tells_failed T f e bytes is h = failed_told T e f bytes (stands_as f bytes (Some e) is h)
 
 -- what goes on with more goes on with nothing more
@@ -249,7 +255,7 @@ unfolding advance
 advance_whole p at = refl
 
 same_tables : all_fields tables ≡ whole (λ o end. None) object_table
-unfolding all_fields
+unfolding all_fields tables
 same_tables = refl
 
 -- bytes that came to all fields are those of tables that fit them
@@ -259,14 +265,17 @@ read_tables f bytes done goes =
     ap (λ g. judge g 0 bytes) (sym same_tables)
     ∙ judge_advance (all_fields tables) 0 bytes
     ∙ ap (λ xs. ended (advance (all_fields tables) 0 xs)) (sym (append-nil bytes))
-    ∙ ap ended (goes [] ∙ rw (none_pending f done, done_left f done tables) (advance_whole f.fields.object f.at))
+    ∙ ap ended (goes [] ∙ rw (none_pending f done, done_left f done tables, tables_is f) (advance_whole f.fields.object f.at))
     ∙ judge_whole f.fields.object f.at
 
-pub object_valid : (f : PendingFields) → Came f → IsJudged f → f.fields.stage ≡ objects.Done → is_object (object_of f.fields.object) ≡ true
-object_valid f came good done = elim (cases_Bool (is_object (object_of f.fields.object))) [
+valid_by : (o : RawObject) → (object_table {R = RawObject}).fits o → is_none (faults_of o) ≡ true → are_valid o ≡ true
+unfolding faults_of are_valid
+valid_by o fits none = tables_whole o 0 (rows_fit o fits) (none_is (object_faults o 0) none)
+
+pub object_valid : (f : PendingFields) → Came f → IsJudged f → f.fields.stage ≡ objects.Done → are_valid f.fields.object ≡ true
+object_valid f came good done = elim (cases_Bool (are_valid f.fields.object)) [
   | inl valid ↦ valid
   | inr other ↦ absurd (came (λ bytes are goes.
       let sound = (whole_takes (λ o end. None) object_table object_law bytes f.fields.object are (read_tables f bytes done goes)).0 in
-      let valid = tables_whole f.fields.object f.at (rows_fit f.fields.object sound.0) (none_is (object_faults f.fields.object f.at) (good done)) in
-      false≢true (sym other ∙ valid)))
+      false≢true (sym other ∙ valid_by f.fields.object sound.0 (good done))))
 ]

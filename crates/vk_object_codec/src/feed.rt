@@ -1,14 +1,16 @@
 // An object that comes in pieces.
 
-ghost use Rattle.std.specs.Prelude.{◌≡◌, ℕ, List, None, OnOk, IfErr};
+ghost use Rattle.std.specs.Prelude.{◌≡◌, ℕ, List, None, true, IfOk, OnOk, IfErr};
 ghost use Rattle.vk_format.specs.Bytes.{IsBytes};
 ghost use Rattle.vk_object_feed.specs.Feeds.{TellsFail, onward};
-ghost use Rattle.vk_object_codec.specs.Fields.{Came, IsJudged, judged};
+ghost use Rattle.vk_object_codec.specs.Fields.{Came, IsJudged, StandsFor, are_valid, faults_of, judged};
 
 use std::alloc::Global;
 use vk_code_read::front::refused;
-use vk_format::{ObjectFail, ObjectRule};
+use vk_format::{ObjectFail, ObjectFault, ObjectRule};
+use vk_memory::Memory;
 use vk_object::Object;
+use vk_object_format::RawObject;
 use vk_object_faults::object_faults;
 use vk_object_feed::PendingFields;
 use vk_object_read::object::ObjectStage;
@@ -33,13 +35,28 @@ fn know_bytes(piece: &[u8])
     }
 }
 
+// The first condition over the tables that is broken.
+fn broken(alloc: Global, tables: &RawObject) -> Result<Option<ObjectFault>, Memory>
+    ensures { IfOk result (λ told. told ≡ faults_of tables.now) }
+{
+    object_faults(alloc, tables)
+}
+
+// The object of tables that stand for one.
+fn object(alloc: Global, tables: &RawObject) -> Result<Object, Memory>
+    requires { are_valid tables.now ≡ true }
+    ensures { IfOk result (λ object. StandsFor tables.now object) }
+{
+    object_of(alloc, tables)
+}
+
 // What is judged where all fields have come.
 fn settle(alloc: Global, fields: &PendingFields) -> Result<(), ObjectFail>
     ensures judged { OnOk result (IsJudged fields.now) }
     ensures err { IfErr result (λ e. (more : List ℕ) → TellsFail e (onward fields.now judged more)) }
 {
     match fields.fields.stage {
-        ObjectStage::Done => match object_faults(alloc, &fields.fields.object) {
+        ObjectStage::Done => match broken(alloc, &fields.fields.object) {
             Ok(None) => Ok(()),
             Ok(Some(fault)) => Err(ObjectFail::Fault(fault)),
             Err(_) => Err(ObjectFail::Memory),
@@ -52,11 +69,10 @@ impl ObjectFeed {
     ghost use Rattle.std.specs.Prelude.{◌≡◌, ◌<◌, ◌^◌, ℕ, ◌+◌, [], ◌++◌, List, length, Some, None, true, Err, OnOk, IfErr, IfSome};
     ghost use Rattle.vk_format.specs.Bytes.{IsBytes};
     ghost use Rattle.vk_format.specs.Format.{advance, told};
-    ghost use Rattle.vk_object_format.specs.Object.{object_format};
     ghost use Rattle.vk_object_feed.specs.Feeds.{TellsFail, fed, onward, wanted_now};
     ghost use Rattle.vk_object_feed.specs.Rows.{fields_width};
     ghost use Rattle.vk_object_read.specs.declared.object.ObjectStage.TheVariants as ObjectStage;
-    ghost use Rattle.vk_object_codec.specs.Fields.{judged};
+    ghost use Rattle.vk_object_codec.specs.Fields.{judged, the_format};
     ghost use Rattle.vk_object_codec.specs.Feeds.{Stands, IsTold, IsRead};
 
     /// A feed of no byte yet.
@@ -186,7 +202,7 @@ impl ObjectFeed {
     /// the answer, and so does want of memory, which is the answer too where a place would have more than 64 bits.
     pub fn feed(&mut self, piece: &[u8]) -> Result<(), ObjectFail>
         ensures fed { (bytes : List ℕ) → Stands self.old bytes → Stands self.new (bytes ++ piece.now) }
-        ensures told { (bytes : List ℕ) → Stands self.new bytes → IsTold result (advance object_format 0 bytes) }
+        ensures told { (bytes : List ℕ) → Stands self.new bytes → IsTold result (advance the_format 0 bytes) }
         ensures same { IfSome self.old.failed (λ fail. result ≡ Err fail) }
         ensures kept { IfErr result (λ fail. self.new.failed ≡ Some fail) }
     {
@@ -211,8 +227,8 @@ impl ObjectFeed {
             None => {}
         }
         if let ObjectStage::Done = self.fields.fields.stage {
-            let object = object_of(self.alloc, &self.fields.fields.object)?;
-            return Ok(object);
+            let whole = object(self.alloc, &self.fields.fields.object)?;
+            return Ok(whole);
         }
         if self.fields.width() == 0 {
             // Does not come: only `Done` wants nothing.
