@@ -80,7 +80,7 @@ module _ (f : PendingFields) (done : f.fields.stage ≡ objects.Done) where
   none_pending = let width : fields_width f.fields ≡ 0 = done_width in nil_from_length f.pending.items (omega (arith, f.fits, width))
 
 judged_is : (f : PendingFields) → judged f.fields.object f.at ≡ last (faults_of f.fields.object) f.fields.object
-unfolding judged
+unfolding judged faults_of
 judged_is f = refl
 
 tables_is : (f : PendingFields) → tables f.fields.object f.at ≡ Whole f.fields.object
@@ -152,7 +152,7 @@ quiet f wide =
 -- ---- what a feed stands for
 
 same_format : all_fields judged ≡ the_format
-unfolding all_fields judged faults_of the_format
+unfolding all_fields judged the_format
 same_format = refl
 
 judge_told : (bytes : List ℕ) (e : ObjectFault) → told (advance the_format 0 bytes) ≡ Some e → judge the_format 0 bytes ≡ Err e

@@ -33,7 +33,7 @@ StandsFor o object = object_of o ≡ object_lists object
 
 -- tables are an object's where no condition over them is broken
 unfoldable pub judged : Next
-judged o end = last (faults_of o) o
+judged o end = last (object_faults o end) o
 
 -- tables whatever holds of them
 unfoldable pub tables : Next
