@@ -1,0 +1,7 @@
+//! The tables of an image from bytes in pieces.
+#![tactic(auto)]
+
+pub mod feed;
+pub mod rows;
+
+pub use feed::RawImageFeed;
