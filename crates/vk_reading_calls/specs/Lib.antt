@@ -1,0 +1,4 @@
+pub mod Origins
+pub mod Right
+pub mod Views
+pub mod Ends
