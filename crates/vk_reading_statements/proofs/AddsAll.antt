@@ -1,5 +1,5 @@
 -- Statements only add to the events.
-use Rattle.std.proofs.Common.{ℕ, zero, suc, Bool, true, false, cond, List, [], ◌++◌, Option, Some, None, ℤ, pos, sym, append-nil}
+use Rattle.std.proofs.Common.{ℕ, zero, suc, Bool, true, false, cond, List, [], ◌∷◌, ◌++◌, length, Option, Some, None, ℤ, pos, refl, sym, append-nil}
 use Rattle.vk_types.specs.declared.types.Ty.{Ty}
 use Rattle.vk_types.specs.Numbers.{wrap_number}
 use Rattle.vk_kinds.specs.declared.heads.CType.TheVariants.{Int}
@@ -101,7 +101,7 @@ adds_looped n h t k g = adds_then_do h (adds_repeat n t (adds_third g k))
 -- ---- statements
 
 adds_moment : (w : World) (e : Event) → AreFirst w.events (with_event w e).events
-adds_moment w e = record { rest = _; parts = λ i. w.events ++ _ }
+adds_moment w e = record { rest = e ∷ []; parts = refl }
 
 module _ (c : Context) (calls : (id : NameId) (ds : List Datum) → Adds (c.call id ds)) where
   pub adds_expression : (scope : Scope) (e : Tree) (vs : Variables) → Adds (value_of c scope vs e)
@@ -111,7 +111,7 @@ module _ (c : Context) (calls : (id : NameId) (ds : List Datum) → Adds (c.call
   adds_combined op s t h k = adds_number h (λ x. adds_number k (λ y. adds_answered (binary_number op s t x y)))
 
   pub adds_assign_variable : (v : Variable) {e : Evaluation} → ((vs : Variables) → Adds (e vs)) → AddsTo (assign_variable v e)
-  adds_assign_variable v h = adds_evaluated h (λ d. record { adds = λ s. first_itself s.world.events })
+  adds_assign_variable v h = adds_evaluated {next = λ d s. fell (with_variable s v.number (as_type v.ctype d))} h (λ d. record { adds = λ s. first_itself s.world.events })
 
   pub adds_assignment : (scope : Scope) (v : Option Variable) (op : Option BinOp) (place e : Tree) → AddsTo (assignment_to c scope v op place e)
   adds_assignment scope (Some v) None place e = adds_assign_variable v (adds_expression scope e)
@@ -131,7 +131,8 @@ module _ (c : Context) (calls : (id : NameId) (ds : List Datum) → Adds (c.call
   adds_initialised scope v (Some e) = adds_assign_variable v (adds_expression scope e)
 
   pub adds_declared : (scope : Scope) (t : Ty) (fixed : Bool) (id : NameId) (init : Option Tree) → AddsTo (declared c scope t fixed id init)
-  adds_declared scope t fixed id init = record { adds = λ s. (adds_initialised (with_binding scope id (Int t) fixed) _ init).adds _ }
+  adds_declared scope t fixed id init = record { adds = λ s.
+      (adds_initialised (with_binding scope id (Int t) fixed) (record { number = length scope.inner; ctype = Int t }) init).adds (with_variable s (length scope.inner) (number (pos 0))) }
 
   values_return : (es : List Event) (v : Value) → AreFirst es (world_of v).events → AreFirst es (world_left (on_value v (λ d w. returned (as_type c.result d) w))).events
   values_return es (got d w) h = h

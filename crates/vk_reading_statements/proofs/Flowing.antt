@@ -1,5 +1,6 @@
 -- One step after another: what the code does for each of them it does for both.
-use Rattle.std.proofs.Common.{◌≡◌, ℕ, zero, suc, Bool, true, false, cond, List, Result, Ok, Err, refl, sym, ap, subst, ◌∙◌, false≢true}
+use Rattle.std.proofs.Common.{◌≡◌, ℕ, zero, suc, Bool, true, false, cond, List, Result, Ok, Err, refl, sym, ap, subst, ◌∙◌}
+use Rattle.std.proofs.lemmas.Bool.{false≢true}
 use Rattle.vk_types.specs.declared.types.Stop.{Stop}
 use Rattle.vk_types.specs.declared.types.Stop.TheVariants.{Turns}
 use Rattle.vk_numbers.specs.Operators.{is_on}
@@ -27,6 +28,30 @@ use Rattle.vk_reading_statements.proofs.AddsAll.{fell_adds, turn_adds, third_add
 -- a state with these values
 abbrev pub state_in : List Held → World → State
 state_in values w = record { variables = variables_in values; world = w }
+
+adds_either : {p q : Effect} (t : Bool) → AddsTo p → AddsTo q → AddsTo (cond t p q)
+adds_either true h k = h
+adds_either false h k = k
+
+-- ---- where a statement did not jump
+
+pub goes_on : (next : Effect) (flow : Flow) → is_jump flow ≡ false → behind_it flow next ≡ next
+goes_on next Fell e = refl
+goes_on next Broke e = absurd (false≢true (sym e))
+goes_on next Continued e = absurd (false≢true (sym e))
+goes_on next (Returned h) e = absurd (false≢true (sym e))
+
+pub turn_goes_on : (next : Effect) (flow : Flow) → leaves_loop flow ≡ false → behind_turn flow next ≡ next
+turn_goes_on next Fell e = refl
+turn_goes_on next Broke e = absurd (false≢true (sym e))
+turn_goes_on next Continued e = refl
+turn_goes_on next (Returned h) e = absurd (false≢true (sym e))
+
+pub third_goes_on : (third : Effect) (flow : Flow) → leaves_loop flow ≡ false → behind_body flow third ≡ third
+third_goes_on third Fell e = refl
+third_goes_on third Broke e = absurd (false≢true (sym e))
+third_goes_on third Continued e = refl
+third_goes_on third (Returned h) e = absurd (false≢true (sym e))
 
 module _ {arrays : List Array} where
   -- ---- what is left
@@ -62,7 +87,7 @@ module _ {arrays : List Array} where
 
   -- ---- evaluations
 
-  module _ {b n : Run} {values : List Held} {e : Evaluation} where
+  module _ {b n : Run} {values : List Held} (e : Evaluation) where
     pub evaluated_leads : {h : Held} (next : Datum → Effect) → Does arrays b (e (variables_in values)) n (Ok h) → Leads arrays b values (with_evaluated e next) n values (next (datum_of h))
     evaluated_leads {h = h} next d = record { leads = λ end last result k. record {
       ends = λ start w s. goes end last result start (e (variables_in values) w) (d.ends start w s) (k.ends start);
@@ -80,7 +105,7 @@ module _ {arrays : List Array} where
     evaluated_fails {x = x} last next a d = record {
       ends = λ start w s. fails start x (e (variables_in values) w) (d.ends start w s);
       stays = d.stays;
-      rise = risen b.out.faults n.out.faults x d.rise;
+      rise = risen Flow b.out.faults n.out.faults x d.rise;
     }
       where
         fails : (start : List ℕ) (x : Halt) (v : Value) → IsEnd arrays start v n (Err x) → IsOutcome arrays start (on_value v (λ d w. next d (state_in values w))) n last (Err x)
@@ -94,10 +119,6 @@ module _ {arrays : List Array} where
     decides_on {h = h} on is d = record { chooses = λ first second p q.
         subst (λ (t : Bool). Leads arrays b values (branch e first second) n values (cond t first second)) (sym is)
         (evaluated_leads {h = h} (λ d. cond (is_on (number_in d)) first second) d) }
-
-    adds_either : {p q : Effect} (t : Bool) → AddsTo p → AddsTo q → AddsTo (cond t p q)
-    adds_either true h k = h
-    adds_either false h k = k
 
     pub decides_fail : {x : Halt} → Does arrays b (e (variables_in values)) n (Err x) → Decides arrays b values e n (Err x)
     decides_fail {x = x} d = record { chooses = λ first second p q.
@@ -178,35 +199,17 @@ module _ {arrays : List Array} where
   jumps s values next Continued e = acts_ended s values continued Continued (λ w. refl)
   jumps s values next (Returned h) e = acts_ended s values (behind_it (Returned h) next) (Returned h) (λ w. refl)
 
-  pub goes_on : (next : Effect) (flow : Flow) → is_jump flow ≡ false → behind_it flow next ≡ next
-  goes_on next Fell e = refl
-  goes_on next Broke e = absurd (false≢true (sym e))
-  goes_on next Continued e = absurd (false≢true (sym e))
-  goes_on next (Returned h) e = absurd (false≢true (sym e))
-
   pub loop_left : (s : Run) (values : List Held) (next : Effect) (flow : Flow) → leaves_loop flow ≡ true → Acts arrays s values (behind_turn flow next) s values (Ok (left_by flow))
   loop_left s values next Fell e = absurd (false≢true e)
   loop_left s values next Broke e = acts_ended s values fell Fell (λ w. refl)
   loop_left s values next Continued e = absurd (false≢true e)
   loop_left s values next (Returned h) e = acts_ended s values (behind_turn (Returned h) next) (Returned h) (λ w. refl)
 
-  pub turn_goes_on : (next : Effect) (flow : Flow) → leaves_loop flow ≡ false → behind_turn flow next ≡ next
-  turn_goes_on next Fell e = refl
-  turn_goes_on next Broke e = absurd (false≢true (sym e))
-  turn_goes_on next Continued e = refl
-  turn_goes_on next (Returned h) e = absurd (false≢true (sym e))
-
   pub body_left : (s : Run) (values : List Held) (third : Effect) (flow : Flow) → leaves_loop flow ≡ true → Acts arrays s values (behind_body flow third) s values (Ok flow)
   body_left s values third Fell e = absurd (false≢true e)
   body_left s values third Broke e = acts_ended s values broke Broke (λ w. refl)
   body_left s values third Continued e = absurd (false≢true e)
   body_left s values third (Returned h) e = acts_ended s values (behind_body (Returned h) third) (Returned h) (λ w. refl)
-
-  pub third_goes_on : (third : Effect) (flow : Flow) → leaves_loop flow ≡ false → behind_body flow third ≡ third
-  third_goes_on third Fell e = refl
-  third_goes_on third Broke e = absurd (false≢true (sym e))
-  third_goes_on third Continued e = refl
-  third_goes_on third (Returned h) e = absurd (false≢true (sym e))
 
   -- where the turns are at an end
   pub no_turns : (s : Run) (values last : List Held) (test : Evaluation) (body : Effect) → Acts arrays s values (turns zero test body) s last (Err (Halted Turns))

@@ -44,7 +44,7 @@ risen_later a b c (Err (Halted x)) h k = tt
 risen_later a b c (Ok x) h k = tt
 
 -- the rise of an evaluation that failed
-pub risen : {T : Type 0} (a b : ℕ) (x : Halt) → IsRise a b (Err x) → HasRisen {T = T} a b (Err x)
-risen a b (Failed Write) k = k
-risen a b (Failed Memory) k = tt
-risen a b (Halted x) k = tt
+pub risen : (T : Type 0) (a b : ℕ) (x : Halt) → IsRise a b (Err x) → HasRisen a b {T = T} (Err x)
+risen T a b (Failed Write) k = k
+risen T a b (Failed Memory) k = tt
+risen T a b (Halted x) k = tt

@@ -1,3 +1,4 @@
 pub mod Fronts
 pub mod Flowing
 pub mod AddsAll
+pub mod Constructs

@@ -432,6 +432,7 @@ pub fn run_bound<O: Sink, C: Calls<O>>(
     requires sound { IsSound flow }
     ensures words { HaveWords cells.new.rows.items }
     ensures sound { IfOk result IsSound }
+    ensures flow { IfOk result (λ end. end ≡ Flow.Fell → flow ≡ Flow.Fell) }
     ensures acts { (outside : Point) (loops : ℕ) (b : StmtTree) →
         Acts (C.arrays calls.now) (run_of cells.old.rows.items (O.state out.old)) locals.now.values.items
         (behind_it flow (told_by (context_at (C.arrays calls.now) (C.call calls.now) body.now) outside (point_in body.now locals.now outer false loops) (stmt_of first.now) (option_map expr_of test.now) b))
