@@ -5,11 +5,14 @@ use Rattle.vk_types.specs.declared.types.Stop.{Stop}
 use Rattle.vk_types.specs.declared.types.Stop.TheVariants.{Turns}
 use Rattle.vk_numbers.specs.Operators.{is_on}
 use Rattle.vk_meaning.specs.World.{Array, World}
-use Rattle.vk_meaning.specs.Data.{Datum, number_in, Value, got, halts}
+use Rattle.vk_meaning.specs.Data.{Datum, number_in, as_type, Value, got, halts}
+use Rattle.vk_kinds.specs.declared.heads.CType.{CType}
+use Rattle.vk_meaning.specs.Points.{Variable}
+use Rattle.vk_meaning.specs.Expressions.{with_datum}
 use Rattle.vk_meaning.specs.Meaning.{world_of}
 use Rattle.vk_meaning.specs.declared.reading.RunFail.{RunFail}
 use Rattle.vk_meaning.specs.declared.reading.RunFail.TheVariants.{Memory}
-use Rattle.vk_meaning.specs.Statements.{State, Outcome, fell, broke, continued, returned, stopped, Effect, Evaluation, on_value, with_evaluated, on_fell, then_do, branch, on_turn, turns, uncontinued, with_third}
+use Rattle.vk_meaning.specs.Statements.{State, with_variable, assign_variable, evaluate, Outcome, fell, broke, continued, returned, stopped, Effect, Evaluation, on_value, with_evaluated, on_fell, then_do, branch, on_turn, turns, uncontinued, with_third}
 use Rattle.vk_reading.specs.declared.held.Held.{Held}
 use Rattle.vk_reading.specs.declared.held.Halt.{Halt}
 use Rattle.vk_reading.specs.declared.held.Halt.TheVariants.{Halted, Failed}
@@ -23,7 +26,7 @@ use Rattle.vk_reading_statements.specs.declared.flow.Flow.TheVariants.{Fell, Bro
 use Rattle.vk_reading_statements.specs.Flows.{outcome_in, is_jump, leaves_loop, left_by, behind_it, behind_turn, behind_body}
 use Rattle.vk_reading_statements.specs.Acts.{world_left, EndsSo, IsOutcome, Acts, AddsTo, Leads, Chooses, Decides}
 use Rattle.vk_reading_statements.proofs.Fronts.{front_further, stands_front, stays_trans, risen_later, risen}
-use Rattle.vk_reading_statements.proofs.AddsAll.{fell_adds, turn_adds, third_adds}
+use Rattle.vk_reading_statements.proofs.AddsAll.{first_itself, fell_adds, turn_adds, third_adds}
 
 -- a state with these values
 abbrev pub state_in : List Held → World → State
@@ -53,6 +56,9 @@ third_goes_on third Broke e = absurd (false≢true (sym e))
 third_goes_on third Continued e = refl
 third_goes_on third (Returned h) e = absurd (false≢true (sym e))
 
+adds_stored_in : (k : ℕ) (d : Datum) → AddsTo (λ s. fell (with_variable s k d))
+adds_stored_in k d = record { adds = λ s. first_itself s.world.events }
+
 module _ {arrays : List Array} where
   -- ---- what is left
 
@@ -76,6 +82,14 @@ module _ {arrays : List Array} where
       here start w Broke h = record { is = refl; stands = h }
       here start w Continued h = record { is = refl; stands = h }
       here start w (Returned x) h = record { is = refl; stands = h }
+
+  -- a variable has another value
+  pub stored_in : (s : Run) (values last : List Held) (k : ℕ) (d : Datum) → variables_in last ≡ with_datum (variables_in values) k d → Acts arrays s values (λ t. fell (with_variable t k d)) s last (Ok Fell)
+  stored_in s values last k d is = record {
+    ends = λ start w h. record { is = λ i. fell (record { variables = sym is i; world = w }); stands = h };
+    stays = stays_itself s.out;
+    rise = tt;
+  }
 
   -- want of memory in the midst
   pub acts_want : (s : Run) (values last : List Held) (effect : Effect) → AddsTo effect → Acts arrays s values effect s last (Err (Failed Memory))
@@ -113,6 +127,28 @@ module _ {arrays : List Array} where
         fails start (Halted y) (halts z w) k = record { is = ap (λ (q : Stop). stopped q w) k.0; stands = k.1 }
         fails start (Failed f) (got d w) k = front_further k ((a d).adds (state_in values w))
         fails start (Failed f) (halts z w) k = k
+
+    -- the value is dropped
+    pub value_dropped : {h : Held} → Does arrays b (e (variables_in values)) n (Ok h) → Acts arrays b values (evaluate e) n values (Ok Fell)
+    value_dropped d = (evaluated_leads (λ d. fell) d).leads n values (Ok Fell) (acts_ended n values fell Fell (λ w. refl))
+
+    -- the value is given back
+    pub value_returned : {h x : Held} (t : CType) → Does arrays b (e (variables_in values)) n (Ok h) → datum_of x ≡ as_type t (datum_of h)
+        → Acts arrays b values (with_evaluated e (λ d s. returned (as_type t d) s.world)) n values (Ok (Returned x))
+    value_returned {h = h} {x = x} t d is = (evaluated_leads (λ d s. returned (as_type t d) s.world) d).leads n values (Ok (Returned x))
+        (acts_ended n values (λ s. returned (as_type t (datum_of h)) s.world) (Returned x) (λ w. ap (λ (y : Datum). returned y w) (sym is)))
+
+    -- the value is stored in a variable
+    pub value_assigned : {h : Held} {last : List Held} (v : Variable) → Does arrays b (e (variables_in values)) n (Ok h) → variables_in last ≡ with_datum (variables_in values) v.number (as_type v.ctype (datum_of h))
+        → Acts arrays b values (assign_variable v e) n last (Ok Fell)
+    value_assigned {h = h} {last = last} v d is = (evaluated_leads (λ d s. fell (with_variable s v.number (as_type v.ctype d))) d).leads n last (Ok Fell) (stored_in n values last v.number (as_type v.ctype (datum_of h)) is)
+
+    pub assign_want : {h : Held} (v : Variable) (last : List Held) → Does arrays b (e (variables_in values)) n (Ok h) → Acts arrays b values (assign_variable v e) n last (Err (Failed Memory))
+    assign_want {h = h} v last d = (evaluated_leads (λ d s. fell (with_variable s v.number (as_type v.ctype d))) d).leads n last (Err (Failed Memory))
+        (acts_want n values last (λ s. fell (with_variable s v.number (as_type v.ctype (datum_of h)))) (adds_stored_in v.number (as_type v.ctype (datum_of h))))
+
+    pub assign_fails : {x : Halt} (v : Variable) (last : List Held) → Does arrays b (e (variables_in values)) n (Err x) → Acts arrays b values (assign_variable v e) n last (Err x)
+    assign_fails v last d = evaluated_fails last (λ d s. fell (with_variable s v.number (as_type v.ctype d))) (λ d. adds_stored_in v.number (as_type v.ctype d)) d
 
     -- a condition
     pub decides_on : {h : Held} (on : Bool) → on ≡ is_on (number_in (datum_of h)) → Does arrays b (e (variables_in values)) n (Ok h) → Decides arrays b values e n (Ok on)

@@ -2,3 +2,5 @@ pub mod Fronts
 pub mod Flowing
 pub mod AddsAll
 pub mod Constructs
+pub mod Exits
+pub mod Storing

@@ -7,14 +7,14 @@ ghost use Rattle.vk_reading.specs.Held.{IsHeld, datum_of};
 ghost use Rattle.vk_reading_steps.specs.Settings.{AreHeld, variables_in};
 
 use crate::body::Locals;
-use vk_meaning::RunFail;
-use vk_reading::{Halt, Held};
+use vk_memory::Memory;
+use vk_reading::Held;
 use vk_reading_steps::operands::literal;
 use vk_rules_book::Binding;
 use vk_types::Ty;
 
 // Makes room for the variable with this number. What all of them have stays.
-fn reach(values: &mut Vec<Held>, number: usize) -> Result<(), Halt>
+fn reach(values: &mut Vec<Held>, number: usize) -> Result<(), Memory>
     requires { AreHeld values.old.items }
     ensures room { OnOk result (number < length values.new.items) }
     ensures same { OnOk result (variables_in values.new.items ≡ variables_in values.old.items) }
@@ -24,11 +24,9 @@ fn reach(values: &mut Vec<Held>, number: usize) -> Result<(), Halt>
         return Ok(());
     }
     let Some(count) = number.checked_add(1) else {
-        return Err(Halt::Failed(RunFail::Memory));
+        return Err(Memory);
     };
-    if values.resize(count, Held::Nothing).is_err() {
-        return Err(Halt::Failed(RunFail::Memory));
-    }
+    values.resize(count, Held::Nothing)?;
     Ok(())
 }
 
@@ -45,7 +43,7 @@ fn put(values: &mut [Held], number: usize, held: Held)
 
 impl Locals {
     /// Another value of the variable with this number.
-    pub fn set(&mut self, number: usize, held: Held) -> Result<(), Halt>
+    pub fn set(&mut self, number: usize, held: Held) -> Result<(), Memory>
         requires before { AreHeld self.old.values.items }
         requires held { IsHeld held }
         ensures bindings { OnOk result (self.new.bindings.items ≡ self.old.bindings.items) }
@@ -58,7 +56,7 @@ impl Locals {
     }
 
     /// One more variable, which has 0.
-    pub fn declare(&mut self, binding: Binding) -> Result<(), Halt>
+    pub fn declare(&mut self, binding: Binding) -> Result<(), Memory>
         requires { AreHeld self.old.values.items }
         ensures bindings { OnOk result (self.new.bindings.items ≡ self.old.bindings.items ++ binding ∷ []) }
         ensures data { OnOk result (variables_in self.new.values.items
@@ -66,9 +64,7 @@ impl Locals {
         ensures held { OnOk result (AreHeld self.new.values.items) }
     {
         let number = self.bindings.len();
-        if self.bindings.push(binding).is_err() {
-            return Err(Halt::Failed(RunFail::Memory));
-        }
+        self.bindings.push(binding)?;
         self.set(number, literal(Ty::I32, 0))
     }
 

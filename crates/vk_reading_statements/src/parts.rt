@@ -29,6 +29,8 @@ use crate::body::{Body, Locals};
 use crate::flow::Flow;
 use vk_ast::{BinOp, Expr, ExprKind, Stmt, StmtKind};
 use vk_io::Sink;
+use vk_meaning::RunFail;
+use vk_memory::Memory;
 use vk_reading::held::{as_type, is_on, number_in};
 use vk_reading::variables::{Variable, variable_among};
 use vk_reading::{Cells, Halt, Held};
@@ -174,7 +176,7 @@ pub fn run_return<O: Sink, C: Calls<O>>(
 }
 
 // The value becomes what the variable has, as one of its type.
-fn assign_variable(locals: &mut Locals, variable: Variable, held: Held) -> Result<(), Halt>
+fn assign_variable(locals: &mut Locals, variable: Variable, held: Held) -> Result<(), Memory>
     requires before { AreHeld locals.old.values.items }
     requires held { IsHeld held }
     ensures bindings { OnOk result (locals.new.bindings.items ≡ locals.old.bindings.items) }
@@ -207,7 +209,9 @@ pub fn run_local<O: Sink, C: Calls<O>>(
         (run_of cells.new.rows.items (O.state out.new)) locals.new.values.items result }
 {
     let number = locals.bindings.len();
-    locals.declare(binding)?;
+    let Ok(()) = locals.declare(binding) else {
+        return Err(Halt::Failed(RunFail::Memory));
+    };
     let Some(e) = init else {
         return Ok(Flow::Fell);
     };
@@ -216,8 +220,10 @@ pub fn run_local<O: Sink, C: Calls<O>>(
         number,
         ctype: binding.ctype,
     };
-    assign_variable(locals, variable, held)?;
-    Ok(Flow::Fell)
+    match assign_variable(locals, variable, held) {
+        Ok(()) => Ok(Flow::Fell),
+        Err(Memory) => Err(Halt::Failed(RunFail::Memory)),
+    }
 }
 
 // What the variable with this number has.
@@ -329,8 +335,10 @@ fn assign_to_variable<O: Sink, C: Calls<O>>(
     let held = assigned_value(
         calls, cells, out, body, locals, outer, variable.number, op, target, e,
     )?;
-    assign_variable(locals, variable, held)?;
-    Ok(Flow::Fell)
+    match assign_variable(locals, variable, held) {
+        Ok(()) => Ok(Flow::Fell),
+        Err(Memory) => Err(Halt::Failed(RunFail::Memory)),
+    }
 }
 
 // An assignment to an element.

@@ -18,38 +18,38 @@ use vk_reading_steps::setting::Place;
 
 /// Evaluates an expression.
 pub fn evaluate<O: Sink, C: Calls<O>>(
-    _calls: &C,
-    _cells: &mut Cells,
-    _out: &mut O,
-    _place: &Place,
-    _e: &Expr,
+    calls: &C,
+    cells: &mut Cells,
+    out: &mut O,
+    place: &Place,
+    e: &Expr,
 ) -> Result<Held, Halt>
-    requires words { HaveWords _cells.old.rows.items }
-    requires held { AreHeld _place.now.values.now }
-    ensures words { HaveWords _cells.new.rows.items }
+    requires words { HaveWords cells.old.rows.items }
+    requires held { AreHeld place.now.values.now }
+    ensures words { HaveWords cells.new.rows.items }
     ensures held { IfOk result IsHeld }
-    ensures does { Does (C.arrays _calls.now) (run_of _cells.old.rows.items (O.state _out.old))
-        (value_of (context_in (C.arrays _calls.now) (C.call _calls.now) _place.now.setting) (scope_of _place.now.scopes) (variables_in _place.now.values.now) (expr_of _e.now))
-        (run_of _cells.new.rows.items (O.state _out.new)) result }
+    ensures does { Does (C.arrays calls.now) (run_of cells.old.rows.items (O.state out.old))
+        (value_of (context_in (C.arrays calls.now) (C.call calls.now) place.now.setting) (scope_of place.now.scopes) (variables_in place.now.values.now) (expr_of e.now))
+        (run_of cells.new.rows.items (O.state out.new)) result }
 {
     Err(Halt::Failed(RunFail::Memory))
 }
 
 /// A pointer to the object that an lvalue designates (C17 6.5.3.2).
 pub fn address_of<O: Sink, C: Calls<O>>(
-    _calls: &C,
-    _cells: &mut Cells,
-    _out: &mut O,
-    _place: &Place,
-    _e: &Expr,
+    calls: &C,
+    cells: &mut Cells,
+    out: &mut O,
+    place: &Place,
+    e: &Expr,
 ) -> Result<Held, Halt>
-    requires words { HaveWords _cells.old.rows.items }
-    requires held { AreHeld _place.now.values.now }
-    ensures words { HaveWords _cells.new.rows.items }
+    requires words { HaveWords cells.old.rows.items }
+    requires held { AreHeld place.now.values.now }
+    ensures words { HaveWords cells.new.rows.items }
     ensures held { IfOk result IsHeld }
-    ensures does { Does (C.arrays _calls.now) (run_of _cells.old.rows.items (O.state _out.old))
-        (address_of (context_in (C.arrays _calls.now) (C.call _calls.now) _place.now.setting) (scope_of _place.now.scopes) (variables_in _place.now.values.now) (expr_of _e.now))
-        (run_of _cells.new.rows.items (O.state _out.new)) result }
+    ensures does { Does (C.arrays calls.now) (run_of cells.old.rows.items (O.state out.old))
+        (address_of (context_in (C.arrays calls.now) (C.call calls.now) place.now.setting) (scope_of place.now.scopes) (variables_in place.now.values.now) (expr_of e.now))
+        (run_of cells.new.rows.items (O.state out.new)) result }
 {
     Err(Halt::Failed(RunFail::Memory))
 }

@@ -6,5 +6,5 @@ use Rattle.vk_reading_steps.proofs.Adds.{adds_address}
 use Rattle.vk_reading_trees.proofs.expressions.address_of.Goals as goal
 
 pub returns-clause-does : goal.returns-clause-does
-returns-clause-does g c = does_want _ _ (adds_address (context_in (g.C.Calls.arrays c.args._calls.now) (g.C.Calls.call c.args._calls.now) c.args._place.now.setting) (g.met.C.Calls.adds c.args._calls.now)
-    (scope_of c.args._place.now.scopes) (variables_in c.args._place.now.values.now) (expr_of c.args._e.now))
+returns-clause-does g c = does_want _ _ (adds_address (context_in (g.C.Calls.arrays c.args.calls.now) (g.C.Calls.call c.args.calls.now) c.args.place.now.setting) (g.met.C.Calls.adds c.args.calls.now)
+    (scope_of c.args.place.now.scopes) (variables_in c.args.place.now.values.now) (expr_of c.args.e.now))
