@@ -1,14 +1,13 @@
 // Calls of functions that a program defines.
 
-ghost use Rattle.std.specs.Prelude.{◌+◌, ◌<◌, IfOk, Some, length, map, take};
+ghost use Rattle.std.specs.Prelude.{◌≡◌, ◌+◌, ◌<◌, ◌≤◌, [], IfOk, Some, length, map, slice_get, take};
 ghost use Rattle.vk_ast.specs.Statements.{stmt_of};
 ghost use Rattle.vk_ast.specs.Units.{function_of, item_of};
+ghost use Rattle.vk_rules_names.specs.Seen.{unit_of};
 ghost use Rattle.vk_meaning.specs.Meaning.{called, called_where_defined, call_within};
-ghost use Rattle.vk_meaning.specs.Programs.{Definition, arrays_of};
+ghost use Rattle.vk_meaning.specs.Programs.{arrays_of};
 ghost use Rattle.vk_reading.specs.Cells.{HaveWords};
 ghost use Rattle.vk_reading.specs.Held.{IsHeld};
-ghost use Rattle.vk_rules_book.specs.Scopes.{text_of};
-ghost use Rattle.vk_rules_names.specs.Seen.{unit_of};
 ghost use Rattle.vk_reading_steps.specs.Runs.{Does, run_of};
 ghost use Rattle.vk_reading_steps.specs.Settings.{AreHeld, data_of};
 ghost use Rattle.vk_reading_calls.specs.Origins.{defined_at};
@@ -57,22 +56,23 @@ fn call_body<O: Sink, F: Functions<O>>(
     cells: &mut Cells,
     out: &mut O,
     at: Definition,
+    view: &UnitView,
     f: &Function,
     body: &Stmt,
     arguments: &[Held],
 ) -> Result<Held, Halt>
     requires right { AreRight program.now.units.now }
-    requires unit { at.unit < length program.now.units.now }
-    requires item { at.item < length (view_at program.now.units.now at.unit).place.items.now }
+    requires view { slice_get program.now.units.now at.unit ≡ Some view.now }
+    requires item { at.item < length view.now.place.items.now }
     requires words { HaveWords cells.old.rows.items }
     requires held { AreHeld arguments.now }
     ensures words { HaveWords cells.new.rows.items }
     ensures held { IfOk result IsHeld }
     ensures does { Does (arrays_of (units_in program.now)) (run_of cells.old.rows.items (O.state out.old))
-        (called (units_in program.now) program.now.turns (F.call functions.now program.now) (definition_by program.now.units.now at f.now body.now) (data_of arguments.now))
+        (called (units_in program.now) program.now.turns (F.call functions.now program.now) (record { unit = unit_of view.now.place;
+        items = take (at.item + 1) (map item_of view.now.place.items.now); function = function_of f.now; body = stmt_of body.now }) (data_of arguments.now))
         (run_of cells.new.rows.items (O.state out.new)) result }
 {
-    let view = &program.units[at.unit];
     let file = place_up_to(view, at.item + 1);
     let calls = InUnit {
         functions,
@@ -121,7 +121,9 @@ fn call_at<O: Sink, F: Functions<O>>(
     };
     match item {
         Item::Function(f) => match &f.body {
-            Some(body) => call_body(functions, program, cells, out, at, f, body, arguments),
+            Some(body) => call_body(
+                functions, program, cells, out, at, view, f, body, arguments,
+            ),
             None => Ok(Held::Nothing),
         },
         Item::Object(_) | Item::Lost(_) => Ok(Held::Nothing),
@@ -154,4 +156,41 @@ type Two<F> = Level<Level<F>>;
 type Four<F> = Two<Two<F>>;
 type Eight<F> = Four<Four<F>>;
 type Sixteen<F> = Eight<Eight<F>>;
-type Deepest = Sixteen<Sixteen<NoFunctions>>;
+type ThirtyOne = Level<Two<Four<Eight<Sixteen<NoFunctions>>>>>;
+
+fn two<F>(below: F) -> Two<F> {
+    Level {
+        below: Level { below },
+    }
+}
+
+fn four<F>(below: F) -> Four<F> {
+    two(two(below))
+}
+
+fn eight<F>(below: F) -> Eight<F> {
+    four(four(below))
+}
+
+fn sixteen<F>(below: F) -> Sixteen<F> {
+    eight(eight(below))
+}
+
+/// Calls what is defined there, without arguments, where no chain of calls has more than 32 functions.
+pub fn call_deep<O: Sink>(
+    program: &Program,
+    cells: &mut Cells,
+    out: &mut O,
+    at: Definition,
+) -> Result<Held, Halt>
+    requires right { AreRight program.now.units.now }
+    requires words { HaveWords cells.old.rows.items }
+    ensures does { Does (arrays_of (units_in program.now)) (run_of cells.old.rows.items (O.state out.old))
+        (called_where_defined (units_in program.now) program.now.turns (call_within 31 (units_in program.now) program.now.turns) (defined_at (units_in program.now) at) [])
+        (run_of cells.new.rows.items (O.state out.new)) result }
+{
+    let functions: ThirtyOne = Level {
+        below: two(four(eight(sixteen(NoFunctions)))),
+    };
+    call_at(&functions, program, cells, out, at, &[])
+}

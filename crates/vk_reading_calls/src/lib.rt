@@ -12,6 +12,6 @@ pub mod starting;
 pub mod unit;
 
 pub use functions::{Functions, NoFunctions};
-pub use level::{Level, call_deep, deepest};
+pub use level::{Level, call_deep};
 pub use origin::Definition;
 pub use program::{Program, UnitView};

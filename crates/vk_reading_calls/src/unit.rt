@@ -1,5 +1,11 @@
 // Calls in the bodies of a unit.
 
+ghost use Rattle.std.specs.Prelude.{◌<◌, length};
+ghost use Rattle.vk_meaning.specs.Meaning.{call_by};
+ghost use Rattle.vk_meaning.specs.Programs.{arrays_of};
+ghost use Rattle.vk_rules_book.specs.Scopes.{is_print, text_of};
+ghost use Rattle.vk_reading_calls.specs.Right.{AreRight, texts_at};
+
 use crate::functions::Functions;
 use crate::prints::print_first;
 use crate::program::Program;
@@ -18,6 +24,9 @@ pub struct InUnit<'a, F> {
 }
 
 impl<O: Sink, F: Functions<O>> Calls<O> for InUnit<'_, F> {
+    ghost use Rattle.vk_reading_calls.specs.Views.{units_in};
+    ghost use Rattle.vk_reading_calls.proofs.Adding.{adds_call_by};
+
     ghost arrays = { λ u. arrays_of (units_in u.program.now) };
 
     ghost call = { λ u id. call_by (F.call u.functions.now u.program.now) (is_print (texts_at u.program.now.units.now u.unit) id) (text_of (texts_at u.program.now.units.now u.unit) id) };

@@ -32,9 +32,9 @@ fn parts_of<'a>(alloc: Global, units: &'a [Checked]) -> Result<Vec<Part<'a>>, Me
 }
 
 // How a program ends whose `main` gave this.
-fn end_of(result: Result<Held, Halt>) -> Result<Reading, RunFail>
+fn end_of(given: Result<Held, Halt>) -> Result<Reading, RunFail>
 {
-    match result {
+    match given {
         Ok(_) => Ok(Reading::Done),
         Err(Halt::Halted(stop)) => Ok(Reading::Stopped(stop)),
         Err(Halt::Failed(fail)) => Err(fail),
@@ -55,15 +55,13 @@ fn call_main<O: Sink>(
     }
 }
 
-/// The scalar reading of a program (C17 5.1.2.3): `out` grows by each number that it prints, on a line of its own, and the answer
-/// is how it ends. It fails where the sink does or memory runs out; what was printed is then a front of the reading's text.
-pub fn read_program<O: Sink>(
+// Calls `main` in the program of these units.
+fn read_units<O: Sink>(
     alloc: Global,
     units: &[Checked],
     turns: u32,
     out: &mut O,
-) -> Result<Reading, RunFail>
-    ensures { ReadsProgram (map judged units.now) turns (O.state out.old) (O.state out.new) result }
+) -> Result<Result<Held, Halt>, Memory>
 {
     let parts = parts_of(alloc, units)?;
     let arrays = arrays_of(alloc, &parts)?;
@@ -75,5 +73,21 @@ pub fn read_program<O: Sink>(
         units: &views,
         turns: u64::from(turns),
     };
-    end_of(call_main(&program, &parts, &mut cells, out))
+    Ok(call_main(&program, &parts, &mut cells, out))
+}
+
+/// The scalar reading of a program (C17 5.1.2.3): `out` grows by each number that it prints, on a line of its own, and the answer
+/// is how it ends. It fails where the sink does or memory runs out; what was printed is then a front of the reading's text.
+pub fn read_program<O: Sink>(
+    alloc: Global,
+    units: &[Checked],
+    turns: u32,
+    out: &mut O,
+) -> Result<Reading, RunFail>
+    ensures { ReadsProgram (map judged units.now) turns (O.state out.old) (O.state out.new) result }
+{
+    match read_units(alloc, units, turns, out) {
+        Ok(given) => end_of(given),
+        Err(Memory) => Err(RunFail::Memory),
+    }
 }

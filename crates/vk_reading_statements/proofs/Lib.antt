@@ -4,3 +4,5 @@ pub mod AddsAll
 pub mod Constructs
 pub mod Exits
 pub mod Storing
+pub mod Sequence
+pub mod Declaring

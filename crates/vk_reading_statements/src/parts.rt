@@ -452,5 +452,6 @@ pub fn run_bound<O: Sink, C: Calls<O>>(
     let Some(high) = upper_bound(first, test) else {
         return Ok(Flow::Fell);
     };
-    run_value(calls, cells, out, body, locals, outer, high)
+    evaluate_here(calls, cells, out, body, locals, outer, high)?;
+    Ok(Flow::Fell)
 }
