@@ -55,27 +55,27 @@ no_text es f k n apart = text_append es (simd_loop f k n apart ∷ []) ∙ appen
 stands_on : {arrays : List Array} {start : List ℕ} {r : Run} {w : World} (f : List ℕ) (k n : ℕ) (apart : Bool) → Stands arrays start r w → Stands arrays start r (with_event w (simd_loop f k n apart))
 stands_on {start = start} {w = w} f k n apart h = record { rows = h.rows; memory = h.memory; text = λ t. h.text t ∙ ap (λ (xs : List ℕ). start ++ xs) (sym (no_text w.events f k n apart)) }
 
-module _ {arrays : List Array} (c : Context) {b n : Run} (vs : List Held) (p : Point) (t : Ty) (k : ℕ) (high : Tree) (body : StmtTree) where
+module _ (c : Context) (vs : List Held) (p : Point) (t : Ty) (k : ℕ) (high : Tree) (body : StmtTree) where
   -- what is told behind the value of the bound
   abbrev telling : Value → World → Outcome
   telling v w = on_value v (λ d w'. fell (at_world (state_in vs w) (with_event w'
       (simd_loop c.text p.loops (iterations (number_in (variables_in vs k)) (wrap_number t (number_in d))) (guard_holds c (variables_in vs) (guard_pairs (branch_point p) body))))))
 
-  told_ends : (start : List ℕ) (w : World) (h : Held) (v : Value) → IsEnd arrays start v n (Ok h) → IsOutcome arrays start (telling v w) n vs (Ok Fell)
-  told_ends start w h (got d w') e = record { is = refl; stands = stands_on _ _ _ _ e.1 }
-  told_ends start w h (halts x w') e = absurd e
+  told_ends : (arrays : List Array) (n : Run) (start : List ℕ) (w : World) (h : Held) (v : Value) → IsEnd arrays start v n (Ok h) → IsOutcome arrays start (telling v w) n vs (Ok Fell)
+  told_ends arrays n start w h (got d w') e = record { is = refl; stands = stands_on _ _ _ _ e.1 }
+  told_ends arrays n start w h (halts x w') e = absurd e
 
-  told_fails : (start : List ℕ) (w : World) (x : Halt) (v : Value) → IsEnd arrays start v n (Err x) → IsOutcome arrays start (telling v w) n vs (Err x)
-  told_fails start w (Halted y) (got d w') e = absurd e
-  told_fails start w (Halted y) (halts z w') e = record { is = ap (λ (q : Stop). stopped q w') e.0; stands = e.1 }
-  told_fails start w (Failed f) (got d w') e = front_further e (record { rest = _ ∷ []; parts = refl })
-  told_fails start w (Failed f) (halts z w') e = e
+  told_fails : (arrays : List Array) (n : Run) (start : List ℕ) (w : World) (x : Halt) (v : Value) → IsEnd arrays start v n (Err x) → IsOutcome arrays start (telling v w) n vs (Err x)
+  told_fails arrays n start w (Halted y) (got d w') e = absurd e
+  told_fails arrays n start w (Halted y) (halts z w') e = record { is = ap (λ (q : Stop). stopped q w') e.0; stands = e.1 }
+  told_fails arrays n start w (Failed f) (got d w') e = front_further e (record { rest = _ ∷ []; parts = refl })
+  told_fails arrays n start w (Failed f) (halts z w') e = e
 
-  told_done : {h : Held} → Does arrays b (value_of c p.scope (variables_in vs) high) n (Ok h) → Acts arrays b vs (told c p t k high body) n vs (Ok Fell)
-  told_done {h = h} d = record { ends = λ start w s. told_ends start w h (value_of c p.scope (variables_in vs) high w) (d.ends start w s); stays = d.stays; rise = tt }
+  told_done : {arrays : List Array} {b n : Run} {h : Held} → Does arrays b (value_of c p.scope (variables_in vs) high) n (Ok h) → Acts arrays b vs (told c p t k high body) n vs (Ok Fell)
+  told_done {arrays = arrays} {n = n} {h = h} d = record { ends = λ start w s. told_ends arrays n start w h (value_of c p.scope (variables_in vs) high w) (d.ends start w s); stays = d.stays; rise = tt }
 
-  told_halted : {x : Halt} → Does arrays b (value_of c p.scope (variables_in vs) high) n (Err x) → Acts arrays b vs (told c p t k high body) n vs (Err x)
-  told_halted {x = x} d = record { ends = λ start w s. told_fails start w x (value_of c p.scope (variables_in vs) high w) (d.ends start w s); stays = d.stays; rise = risen Flow b.out.faults n.out.faults x d.rise }
+  told_halted : {arrays : List Array} {b n : Run} {x : Halt} → Does arrays b (value_of c p.scope (variables_in vs) high) n (Err x) → Acts arrays b vs (told c p t k high body) n vs (Err x)
+  told_halted {arrays = arrays} {b = b} {n = n} {x = x} d = record { ends = λ start w s. told_fails arrays n start w x (value_of c p.scope (variables_in vs) high w) (d.ends start w s); stays = d.stays; rise = risen Flow b.out.faults n.out.faults x d.rise }
 
 module _ {arrays : List Array} (c : Context) {b n : Run} (vs : List Held) (outside p : Point) (high : Tree) (body : StmtTree) where
   pub bound_done : {h : Held} (first : StmtTree) (test : Option Tree) → Some high ≡ upper_bound first test → Does arrays b (value_of c p.scope (variables_in vs) high) n (Ok h)

@@ -26,6 +26,9 @@ module _ {arrays : List Array} {b n : Run} where
   pub exit_decides : {vs : List Held} {e : Evaluation} {x : Halt} (r : Result Bool Halt) → IsErrAnd r (λ y. y ≡ x) → Decides arrays b vs e n (Err x) → Decides arrays b vs e n r
   exit_decides {vs = vs} {e = e} {x = x} r h d = subst (λ (q : Result Bool Halt). Decides arrays b vs e n q) (sym (is_err r x h)) d
 
+  pub same_test : {vs : List Held} {e e' : Evaluation} {r : Result Bool Halt} → e ≡ e' → Decides arrays b vs e n r → Decides arrays b vs e' n r
+  same_test {vs = vs} {r = r} is d = subst (λ (x : Evaluation). Decides arrays b vs x n r) is d
+
   pub same_action : {a a' : Action} {r : Result Held Halt} → a ≡ a' → Does arrays b a n r → Does arrays b a' n r
   same_action {r = r} e d = subst (λ (x : Action). Does arrays b x n r) e d
 

@@ -59,6 +59,9 @@ third_goes_on third (Returned h) e = absurd (false≢true (sym e))
 adds_stored_in : (k : ℕ) (d : Datum) → AddsTo (λ s. fell (with_variable s k d))
 adds_stored_in k d = record { adds = λ s. first_itself s.world.events }
 
+pub adds_returned : (t : CType) (d : Datum) → AddsTo (λ s. returned (as_type t d) s.world)
+adds_returned t d = record { adds = λ s. first_itself s.world.events }
+
 module _ {arrays : List Array} where
   -- ---- what is left
 

@@ -34,20 +34,20 @@ inner_point scope loops = record { scope = scope; shares = false; loops = loops 
 next_of : (ss : List Stmt) (i : ℕ) (x : Stmt) → i < length ss → x ≡ get_or ss i x → list_stmts (drop i ss) ≡ more_stmts (stmt_of x) (list_stmts (drop (i + 1) ss))
 next_of ss i x below is = ap list_stmts (drop-cons ss i x below ∙ ap (λ (y : Stmt). y ∷ drop (suc i) ss) (sym is) ∙ ap (λ n. x ∷ drop n ss) (sym (add-one i)))
 
-module _ {arrays : List Array} (c : Context) (calls : (id : NameId) (ds : List Datum) → Adds (c.call id ds)) {b m k : Run} {vs us ws : List Held} {whole : Effect} (scope : Scope) (loops : ℕ) (ss : List Stmt) (i : ℕ) (x : Stmt)
+module _ {arrays : List Array} (c : Context) (calls : (id : NameId) (ds : List Datum) → Adds (c.call id ds)) {b m : Run} {vs us : List Held} {whole : Effect} (scope : Scope) (loops : ℕ) (ss : List Stmt) (i : ℕ) (x : Stmt)
     (below : i < length ss) (is : x ≡ get_or ss i x) (so_far : Leads arrays b vs whole m us (run_all c (inner_point scope loops) (list_stmts (drop i ss)))) where
   taken : Leads arrays b vs whole m us (run_all c (inner_point scope loops) (more_stmts (stmt_of x) (list_stmts (drop (i + 1) ss))))
   taken = subst (λ (ts : StmtTrees). Leads arrays b vs whole m us (run_all c (inner_point scope loops) ts)) (next_of ss i x below is) so_far
 
-  pub next_halted : {h : Halt} → Acts arrays m us (run c (inner_point scope loops) (stmt_of x)) k ws (Err h) → Acts arrays b vs whole k ws (Err h)
+  pub next_halted : {k : Run} {ws : List Held} {h : Halt} → Acts arrays m us (run c (inner_point scope loops) (stmt_of x)) k ws (Err h) → Acts arrays b vs whole k ws (Err h)
   next_halted a = all_halted c calls (inner_point scope loops) (stmt_of x) (list_stmts (drop (i + 1) ss)) taken a
 
-  pub next_jumped : (flow : Flow) → Acts arrays m us (run c (inner_point scope loops) (stmt_of x)) k ws (Ok flow) → is_jump flow ≡ true → Acts arrays b vs whole k ws (Ok flow)
+  pub next_jumped : {k : Run} {ws : List Held} (flow : Flow) → Acts arrays m us (run c (inner_point scope loops) (stmt_of x)) k ws (Ok flow) → is_jump flow ≡ true → Acts arrays b vs whole k ws (Ok flow)
   next_jumped flow a jumped = all_jumped c calls (inner_point scope loops) (stmt_of x) (list_stmts (drop (i + 1) ss)) taken flow a jumped
 
-  pub next_fell : (flow : Flow) (next : Scope) → Acts arrays m us (run c (inner_point scope loops) (stmt_of x)) k ws (Ok flow) → is_jump flow ≡ false → (flow ≡ Fell → next ≡ after false scope (stmt_of x))
+  pub next_fell : {k : Run} {ws : List Held} (flow : Flow) (next : Scope) → Acts arrays m us (run c (inner_point scope loops) (stmt_of x)) k ws (Ok flow) → is_jump flow ≡ false → (flow ≡ Fell → next ≡ after false scope (stmt_of x))
       → Leads arrays b vs whole k ws (run_all c (inner_point next (loops + loops_in (stmt_of x))) (list_stmts (drop (i + 1) ss)))
-  next_fell flow next a fell_on went = subst (λ (t : Scope). Leads arrays b vs whole k ws (run_all c (inner_point t (loops + loops_in (stmt_of x))) (list_stmts (drop (i + 1) ss)))) (sym (went (fell_if flow fell_on)))
+  next_fell {k = k} {ws = ws} flow next a fell_on went = subst (λ (t : Scope). Leads arrays b vs whole k ws (run_all c (inner_point t (loops + loops_in (stmt_of x))) (list_stmts (drop (i + 1) ss)))) (sym (went (fell_if flow fell_on)))
       (all_fell c calls (inner_point scope loops) (stmt_of x) (list_stmts (drop (i + 1) ss)) taken flow a fell_on)
 
 pub all_done : {arrays : List Array} (c : Context) (calls : (id : NameId) (ds : List Datum) → Adds (c.call id ds)) {b m : Run} {vs us : List Held} {whole : Effect} (scope : Scope) (loops : ℕ) (ss : List Stmt) (i : ℕ) → length ss ≤ i

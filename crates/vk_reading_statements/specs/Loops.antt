@@ -1,16 +1,14 @@
 -- The parts of a loop.
 use Rattle.std.specs.Prelude.{Option, Some, None}
 use Rattle.vk_ast.specs.Tree.{Tree, binary}
-use Rattle.vk_ast.specs.Statements.{StmtTree, local, if_only, if_else, while_loop, do_loop, for_loop}
+use Rattle.vk_ast.specs.Statements.{StmtTree, local, while_loop, do_loop, for_loop}
 use Rattle.vk_ast.specs.declared.expressions.BinOp.TheVariants.{Lt}
 use Rattle.vk_meaning.specs.Points.{Point, branch_point}
 use Rattle.vk_meaning.specs.Expressions.{Context}
 use Rattle.vk_meaning.specs.Statements.{Effect, fell, with_third, run}
 
--- the condition of a branch or a loop
+-- the condition of a loop
 abbrev pub test_in : StmtTree → Option Tree
-test_in (if_only l k test first) = Some test
-test_in (if_else l k test first second) = Some test
 test_in (while_loop l k test body) = Some test
 test_in (do_loop l k body test) = Some test
 test_in (for_loop l k first test third body) = test

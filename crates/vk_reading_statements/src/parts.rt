@@ -9,7 +9,7 @@ ghost use Rattle.vk_ast.specs.Tree.{expr_of};
 ghost use Rattle.vk_meaning.specs.Data.{as_type, given};
 ghost use Rattle.vk_meaning.specs.Expressions.{integer_type, value_of, with_datum};
 ghost use Rattle.vk_meaning.specs.Points.{Point};
-ghost use Rattle.vk_meaning.specs.Statements.{assignment_to, combined, condition_of, declared, evaluate, return_of, told_by, variable_of};
+ghost use Rattle.vk_meaning.specs.Statements.{assignment_to, combined, condition_of, declared, evaluate, initialised, return_of, told_by, variable_of};
 ghost use Rattle.vk_reading.specs.Cells.{HaveWords};
 ghost use Rattle.vk_reading.specs.Held.{IsHeld, datum_of};
 ghost use Rattle.vk_reading.specs.Variables.{found_in};
@@ -75,8 +75,8 @@ fn evaluate_here<O: Sink, C: Calls<O>>(
     vk_reading_trees::evaluate(calls, cells, out, &place, e)
 }
 
-// Whether a condition holds.
-fn holds<O: Sink, C: Calls<O>>(
+/// Whether a condition holds.
+pub fn holds<O: Sink, C: Calls<O>>(
     calls: &C,
     cells: &mut Cells,
     out: &mut O,
@@ -96,7 +96,7 @@ fn holds<O: Sink, C: Calls<O>>(
     Ok(is_on(number_in(held)))
 }
 
-/// Whether the condition of a branch or a loop holds; a missing one does.
+/// Whether the condition of a loop holds; a missing one does.
 pub fn test<O: Sink, C: Calls<O>>(
     calls: &C,
     cells: &mut Cells,
@@ -114,10 +114,6 @@ pub fn test<O: Sink, C: Calls<O>>(
         (run_of cells.new.rows.items (O.state out.new)) result }
 {
     match &s.kind {
-        StmtKind::If(e, _, second) => match second {
-            Some(_) => holds(calls, cells, out, body, locals, outer, e),
-            None => holds(calls, cells, out, body, locals, outer, e),
-        },
         StmtKind::While(e, _) => holds(calls, cells, out, body, locals, outer, e),
         StmtKind::Do(_, e) => holds(calls, cells, out, body, locals, outer, e),
         StmtKind::For(_, e, _, _) => match e {
@@ -168,11 +164,13 @@ pub fn run_return<O: Sink, C: Calls<O>>(
         (return_of (context_at (C.arrays calls.now) (C.call calls.now) body.now) (scope_in body.now locals.now outer) (option_map expr_of e.now))
         (run_of cells.new.rows.items (O.state out.new)) locals.now.values.items result }
 {
-    let Some(e) = e else {
-        return Ok(Flow::Returned(Held::Nothing));
-    };
-    let held = evaluate_here(calls, cells, out, body, locals, outer, e)?;
-    Ok(Flow::Returned(as_type(held, body.setting.result)))
+    match e {
+        Some(e) => {
+            let held = evaluate_here(calls, cells, out, body, locals, outer, e)?;
+            Ok(Flow::Returned(as_type(held, body.setting.result)))
+        }
+        None => Ok(Flow::Returned(Held::Nothing)),
+    }
 }
 
 // The value becomes what the variable has, as one of its type.
@@ -185,6 +183,40 @@ fn assign_variable(locals: &mut Locals, variable: Variable, held: Held) -> Resul
     ensures held { OnOk result (AreHeld locals.new.values.items) }
 {
     locals.set(variable.number, as_type(held, variable.ctype))
+}
+
+// The initialiser of a variable that was declared.
+fn initialise<O: Sink, C: Calls<O>>(
+    calls: &C,
+    cells: &mut Cells,
+    out: &mut O,
+    body: &Body,
+    locals: &mut Locals,
+    outer: usize,
+    variable: Variable,
+    init: &Option<Expr>,
+) -> Result<Flow, Halt>
+    requires words { HaveWords cells.old.rows.items }
+    requires held { AreHeld locals.old.values.items }
+    ensures words { HaveWords cells.new.rows.items }
+    ensures held { OnOk result (AreHeld locals.new.values.items) }
+    ensures flow { IfOk result (λ flow. flow ≡ Flow.Fell) }
+    ensures bindings { OnOk result (locals.new.bindings.items ≡ locals.old.bindings.items) }
+    ensures acts { Acts (C.arrays calls.now) (run_of cells.old.rows.items (O.state out.old)) locals.old.values.items
+        (initialised (context_at (C.arrays calls.now) (C.call calls.now) body.now) (scope_in body.now locals.old outer) (record { number = variable.number; ctype = variable.ctype })
+        (option_map expr_of init.now))
+        (run_of cells.new.rows.items (O.state out.new)) locals.new.values.items result }
+{
+    match init {
+        Some(e) => {
+            let held = evaluate_here(calls, cells, out, body, locals, outer, e)?;
+            match assign_variable(locals, variable, held) {
+                Ok(()) => Ok(Flow::Fell),
+                Err(Memory) => Err(Halt::Failed(RunFail::Memory)),
+            }
+        }
+        None => Ok(Flow::Fell),
+    }
 }
 
 /// A declaration (C17 6.7).
@@ -208,20 +240,12 @@ pub fn run_local<O: Sink, C: Calls<O>>(
         (declared (context_at (C.arrays calls.now) (C.call calls.now) body.now) (scope_in body.now locals.old outer) t binding.fixed binding.name (option_map expr_of init.now))
         (run_of cells.new.rows.items (O.state out.new)) locals.new.values.items result }
 {
-    let number = locals.bindings.len();
-    let Ok(()) = locals.declare(binding) else {
-        return Err(Halt::Failed(RunFail::Memory));
-    };
-    let Some(e) = init else {
-        return Ok(Flow::Fell);
-    };
-    let held = evaluate_here(calls, cells, out, body, locals, outer, e)?;
     let variable = Variable {
-        number,
+        number: locals.bindings.len(),
         ctype: binding.ctype,
     };
-    match assign_variable(locals, variable, held) {
-        Ok(()) => Ok(Flow::Fell),
+    match locals.declare(binding) {
+        Ok(()) => initialise(calls, cells, out, body, locals, outer, variable, init),
         Err(Memory) => Err(Halt::Failed(RunFail::Memory)),
     }
 }
@@ -449,9 +473,11 @@ pub fn run_bound<O: Sink, C: Calls<O>>(
     if flow.is_jump() {
         return Ok(flow);
     }
-    let Some(high) = upper_bound(first, test) else {
-        return Ok(Flow::Fell);
-    };
-    evaluate_here(calls, cells, out, body, locals, outer, high)?;
-    Ok(Flow::Fell)
+    match upper_bound(first, test) {
+        Some(high) => {
+            evaluate_here(calls, cells, out, body, locals, outer, high)?;
+            Ok(Flow::Fell)
+        }
+        None => Ok(Flow::Fell),
+    }
 }

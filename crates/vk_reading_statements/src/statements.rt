@@ -14,7 +14,7 @@ ghost use Rattle.vk_reading_statements.specs.Places.{context_at, point_in, scope
 
 use crate::body::{Body, Locals};
 use crate::flow::Flow;
-use crate::parts::{run_assign, run_bound, run_local, run_return, run_value, test};
+use crate::parts::{holds, run_assign, run_bound, run_local, run_return, run_value, test};
 use vk_ast::{Stmt, StmtKind};
 use vk_io::Sink;
 use vk_kinds::CType;
@@ -65,8 +65,8 @@ pub fn run_stmt<O: Sink, C: Calls<O>>(
         }
         StmtKind::Assign(op, target, e) => run_assign(calls, cells, out, body, locals, outer, *op, target, e),
         StmtKind::Value(e) => run_value(calls, cells, out, body, locals, outer, e),
-        StmtKind::If(_, first, second) => {
-            if test(calls, cells, out, body, locals, outer, s)? {
+        StmtKind::If(e, first, second) => {
+            if holds(calls, cells, out, body, locals, outer, e)? {
                 return run_inside(calls, cells, out, body, locals, first);
             }
             match second {
