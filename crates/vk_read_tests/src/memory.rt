@@ -15,7 +15,7 @@ static MEMORY: [Row; 5] = [
         want: "0 2 0 4464 -1 32767 done",
     },
     Row {
-        units: &["int a[4] = {1, 2, 3, 4};\nint sum(const int *p, int n) { int s = 0; for (int i = 0; i < n; i++) s += p[i]; return s; }\nvoid add(int *p, int n) { *p += n; p[1] = p[0] * 2; }\nint main(void) { print(sum(a, 4)); add(&a[1], 10); add(a + 2, 5); print(sum(a, 4)); print(*(a + 3)); print(3[a]); return 0; }\n"],
+        units: &["int a[4] = {1, 2, 3, 4};\nint sum(const int *p, int n) { int s = 0; for (int i = 0; i < n; i++) s += p[i]; return s; }\nvoid add(int *p, int n) { *p += n; p[1] = p[0] * 2; }\nint main(void) { print(sum(a, 4)); add(&a[1], 10); add(a + 2, 5); print(sum(a, 4)); print(*(a + 3)); print(a[3]); return 0; }\n"],
         turns: 1000000,
         want: "10 100 58 58 done",
     },

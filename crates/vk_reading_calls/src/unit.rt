@@ -15,6 +15,7 @@ use vk_reading::{Cells, Halt, Held};
 use vk_reading_steps::calls::Calls;
 
 /// The functions of a program, by the names of one of its units.
+#[derive(Drop)]
 pub struct InUnit<'a, F> {
     pub functions: &'a F,
     pub program: &'a Program<'a>,
