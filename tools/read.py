@@ -39,7 +39,7 @@ class Maker:
         return self.rng.choice(["0", "1", "2", "3", "7", "100", "255", "65536", "2147483647", "5u", "4294967295u", "-1", "-9", "12345678901"])
 
     def value(self, names, depth, calls=True):
-        """An expression on the variables, of no side effect but those of at most one call."""
+        """An expression on the variables. A call stands alone in it, since C leaves the order of operands open."""
         rng = self.rng
         kind = rng.randrange(12) if depth else rng.randrange(3)
         if kind == 0 or (kind < 3 and not names):
@@ -69,7 +69,7 @@ class Maker:
             op = rng.choice(["&&", "||", "==", "!=", "<", "<=", ">", ">="])
             return f"({self.value(names, depth - 1, False)} {op} {self.value(names, depth - 1, False)})"
         op = rng.choice("+-*&|^")
-        return f"({self.value(names, depth - 1, False)} {op} {self.value(names, depth - 1, calls)})"
+        return f"({self.value(names, depth - 1, False)} {op} {self.value(names, depth - 1, False)})"
 
     def statement(self, names, writable, depth, in_loop, indent):
         rng = self.rng

@@ -1,37 +1,67 @@
+use Rattle.std.proofs.Common.{◌≡◌, ℕ, length, take, false, refl, sym, ap, subst, ◌∙◌, arith, rules}
+use Rattle.vk_ast.specs.declared.statements.Stmt.{Stmt}
+use Rattle.vk_ast.specs.declared.statements.StmtKind.{StmtKind}
+use Rattle.vk_ast.specs.Statements.{list_stmts, stmt_kind_of, stmt_of}
+use Rattle.vk_meaning.specs.Statements.{broke, condition_of, continued, repeat, run, run_all, turns}
+use Rattle.vk_reading_steps.specs.Settings.{AreHeld}
+use Rattle.vk_reading_statements.specs.declared.flow.Flow.TheVariants.{Broke, Continued}
+use Rattle.vk_reading_statements.specs.Acts.{Leads}
+use Rattle.vk_reading_statements.specs.Loops.{test_in, turn_of}
+use Rattle.vk_reading_statements.specs.Places.{context_at, point_in, scope_in}
+use Rattle.vk_reading_statements.proofs.Constructs.{same_effect, same_values, turns_over, while_halted}
+use Rattle.vk_reading_statements.proofs.Exits.{exit_acts}
+use Rattle.vk_reading_statements.proofs.Flowing.{acts_ended, jumps, leads_itself}
+use Rattle.vk_reading_statements.proofs.Sequence.{all_done, next_halted, next_jumped}
 use Rattle.vk_reading_statements.proofs.statements.+running.Goals as goal
 
 pub run_apart-returns-in_err-flow-clause-acts : goal.run_apart-returns-in_err-flow-clause-acts
-run_apart-returns-in_err-flow-clause-acts g t c = ?
+run_apart-returns-in_err-flow-clause-acts g t c loops = exit_acts c.from_residual.result c.from_residual.ensures.1 (c.in_err-flow.ensures.acts loops)
 
 pub run_apart-returns-clause-acts : goal.run_apart-returns-clause-acts
-run_apart-returns-clause-acts g t c = ?
+run_apart-returns-clause-acts g t c loops = same_values c.cut.ensures.values (c.in_ok-flow.ensures.acts loops)
 
 pub run_apart-returns-clause-same : goal.run_apart-returns-clause-same
-run_apart-returns-clause-same g t c = ?
+run_apart-returns-clause-same g t c =
+    let mark : c.len-mark.result ≡ length c.args.locals.now.bindings.items = search rules in
+    c.cut.ensures.bindings ∙ ap (λ (n : ℕ). take n c.run_stmt.new.locals.bindings.items) mark ∙ c.in_ok-flow.ensures.visible
 
 pub run_apart-returns-clause-held : goal.run_apart-returns-clause-held
-run_apart-returns-clause-held g t c = ?
+run_apart-returns-clause-held g t c = subst AreHeld (sym c.cut.ensures.values) c.in_ok-flow.ensures.held
 
 pub run_inside-returns-clause-acts : goal.run_inside-returns-clause-acts
-run_inside-returns-clause-acts g t c = ?
+run_inside-returns-clause-acts g t c loops =
+    let mark : c.len-outer.result ≡ length c.args.locals.now.bindings.items = search rules in
+    same_effect (ap (λ (n : ℕ). run (context_at (g.C.Calls.arrays c.args.calls.now) (g.C.Calls.call c.args.calls.now) c.args.body.now) (point_in c.args.body.now c.args.locals.now n false loops) (stmt_of c.args.s.now)) mark) (c.run_apart.ensures.acts loops)
 
 pub run_block-returns-in_err-flow-clause-acts : goal.run_block-returns-in_err-flow-clause-acts
-run_block-returns-in_err-flow-clause-acts g t c = ?
+run_block-returns-in_err-flow-clause-acts g t c loops =
+    let mark : c.len-mark.result ≡ length c.args.locals.now.bindings.items = search rules in
+    exit_acts c.from_residual.result c.from_residual.ensures.1 (same_effect (ap (λ (n : ℕ). run_all (context_at (g.C.Calls.arrays c.args.calls.now) (g.C.Calls.call c.args.calls.now) c.args.body.now) (point_in c.args.body.now c.args.locals.now n false loops) (list_stmts c.args.ss.now)) mark) (c.in_err-flow.ensures.acts loops))
 
 pub run_block-returns-clause-acts : goal.run_block-returns-clause-acts
-run_block-returns-clause-acts g t c = ?
+run_block-returns-clause-acts g t c loops =
+    let mark : c.len-mark.result ≡ length c.args.locals.now.bindings.items = search rules in
+    same_values c.cut.ensures.values (same_effect (ap (λ (n : ℕ). run_all (context_at (g.C.Calls.arrays c.args.calls.now) (g.C.Calls.call c.args.calls.now) c.args.body.now) (point_in c.args.body.now c.args.locals.now n false loops) (list_stmts c.args.ss.now)) mark) (c.in_ok-flow.ensures.acts loops))
 
 pub run_block-returns-clause-same : goal.run_block-returns-clause-same
-run_block-returns-clause-same g t c = ?
+run_block-returns-clause-same g t c =
+    let mark : c.len-mark.result ≡ length c.args.locals.now.bindings.items = search rules in
+    c.cut.ensures.bindings ∙ ap (λ (n : ℕ). take n c.run_all.new.locals.bindings.items) mark ∙ c.in_ok-flow.ensures.visible
 
 pub run_block-returns-clause-held : goal.run_block-returns-clause-held
-run_block-returns-clause-held g t c = ?
+run_block-returns-clause-held g t c = subst AreHeld (sym c.cut.ensures.values) c.in_ok-flow.ensures.held
 
 pub run_turn-returns-in-While-clause-acts : goal.run_turn-returns-in-While-clause-acts
-run_turn-returns-in-While-clause-acts g t c = ?
+run_turn-returns-in-While-clause-acts g t c loops =
+    let d : c.deref.result.now ≡ c.in-While.stmt.value = search rules in
+    same_effect (ap (λ (s : Stmt). run (context_at (g.C.Calls.arrays c.args.calls.now) (g.C.Calls.call c.args.calls.now) c.args.body.now) (point_in c.args.body.now c.args.locals.now (length c.args.locals.now.bindings.items) false loops) (stmt_of s)) d
+    ∙ ap (λ (k : StmtKind). turn_of (context_at (g.C.Calls.arrays c.args.calls.now) (g.C.Calls.call c.args.calls.now) c.args.body.now) (point_in c.args.body.now c.args.locals.now c.args.outer false loops) (stmt_kind_of k c.args.s.now.line c.args.s.now.token)) (sym c.in-While.is)) (c.run_inside.ensures.acts loops)
 
 pub run_turn-returns-in-Do-clause-acts : goal.run_turn-returns-in-Do-clause-acts
-run_turn-returns-in-Do-clause-acts g t c = ?
+run_turn-returns-in-Do-clause-acts g t c loops =
+    let d : c.deref-in-Do.result.now ≡ c.in-Do.stmt.value = search rules in
+    same_effect (ap (λ (s : Stmt). run (context_at (g.C.Calls.arrays c.args.calls.now) (g.C.Calls.call c.args.calls.now) c.args.body.now) (point_in c.args.body.now c.args.locals.now (length c.args.locals.now.bindings.items) false loops) (stmt_of s)) d
+    ∙ ap (λ (k : StmtKind). turn_of (context_at (g.C.Calls.arrays c.args.calls.now) (g.C.Calls.call c.args.calls.now) c.args.body.now) (point_in c.args.body.now c.args.locals.now c.args.outer false loops) (stmt_kind_of k c.args.s.now.line c.args.s.now.token)) (sym c.in-Do.is)) (c.run_inside-in-Do.ensures.acts loops)
 
 pub run_turn-returns-in_err-flow-in-For-clause-acts : goal.run_turn-returns-in_err-flow-in-For-clause-acts
 run_turn-returns-in_err-flow-in-For-clause-acts g t c = ?
@@ -43,19 +73,10 @@ pub run_turn-returns-else-leaves_loop-clause-acts : goal.run_turn-returns-else-l
 run_turn-returns-else-leaves_loop-clause-acts g t c = ?
 
 pub run_while-returns-in_err-test-clause-acts : goal.run_while-returns-in_err-test-clause-acts
-run_while-returns-in_err-test-clause-acts g t c = ?
-
-pub run_while-returns-then-test-clause-acts : goal.run_while-returns-then-test-clause-acts
-run_while-returns-then-test-clause-acts g t c = ?
-
-pub run_while-returns-else-test-clause-acts : goal.run_while-returns-else-test-clause-acts
-run_while-returns-else-test-clause-acts g t c = ?
+run_while-returns-in_err-test-clause-acts g t c loops = exit_acts c.from_residual.result c.from_residual.ensures.1 (while_halted (context_at (g.C.Calls.arrays c.args.calls.now) (g.C.Calls.call c.args.calls.now) c.args.body.now) (g.met.C.Calls.adds c.args.calls.now) (point_in c.args.body.now c.args.locals.now c.args.outer false loops) (stmt_of c.args.s.now) c.in_err-test.ensures.decides)
 
 pub run_rounds-returns-then-is_jump-clause-acts : goal.run_rounds-returns-then-is_jump-clause-acts
-run_rounds-returns-then-is_jump-clause-acts g t c = ?
-
-pub run_rounds-returns-else-is_jump-clause-acts : goal.run_rounds-returns-else-is_jump-clause-acts
-run_rounds-returns-else-is_jump-clause-acts g t c = ?
+run_rounds-returns-then-is_jump-clause-acts g t c loops = jumps _ _ _ c.args.flow (sym c.if-is_jump.ensures)
 
 pub run_turns-returns-in_err-flow-clause-acts : goal.run_turns-returns-in_err-flow-clause-acts
 run_turns-returns-in_err-flow-clause-acts g t c = ?
@@ -66,29 +87,31 @@ run_turns-returns-then-leaves_loop-clause-acts g t c = ?
 pub run_turns-returns-in_err-test-clause-acts : goal.run_turns-returns-in_err-test-clause-acts
 run_turns-returns-in_err-test-clause-acts g t c = ?
 
-pub run_turns-returns-then-test-clause-acts : goal.run_turns-returns-then-test-clause-acts
-run_turns-returns-then-test-clause-acts g t c = ?
-
 pub run_turns-returns-clause-acts : goal.run_turns-returns-clause-acts
-run_turns-returns-clause-acts g t c = ?
+run_turns-returns-clause-acts g t c loops =
+    let none : c.loop-left.left ≡ 0 = omega (arith, c.loop-left-test.false) in
+    turns_over _ (condition_of (context_at (g.C.Calls.arrays c.args.calls.now) (g.C.Calls.call c.args.calls.now) c.args.body.now) (scope_in c.args.body.now c.args.locals.now c.args.outer) (test_in (stmt_of c.args.s.now))) (turn_of (context_at (g.C.Calls.arrays c.args.calls.now) (g.C.Calls.call c.args.calls.now) c.args.body.now) (point_in c.args.body.now c.args.locals.now c.args.outer false loops) (stmt_of c.args.s.now)) (subst (λ (n : ℕ). Leads (g.C.Calls.arrays c.args.calls.now) _ _ _ _ _ (turns n (condition_of (context_at (g.C.Calls.arrays c.args.calls.now) (g.C.Calls.call c.args.calls.now) c.args.body.now) (scope_in c.args.body.now c.args.locals.now c.args.outer) (test_in (stmt_of c.args.s.now))) (turn_of (context_at (g.C.Calls.arrays c.args.calls.now) (g.C.Calls.call c.args.calls.now) c.args.body.now) (point_in c.args.body.now c.args.locals.now c.args.outer false loops) (stmt_of c.args.s.now)))) none (c.loop-left.invariant.leads loops))
 
 pub run_all-returns-in_err-flow-clause-acts : goal.run_all-returns-in_err-flow-clause-acts
-run_all-returns-in_err-flow-clause-acts g t c = ?
+run_all-returns-in_err-flow-clause-acts g t c loops =
+    let h = c.loop-s.invariant.leads loops in
+    exit_acts c.from_residual.result c.from_residual.ensures.1 (next_halted (context_at (g.C.Calls.arrays c.args.calls.now) (g.C.Calls.call c.args.calls.now) c.args.body.now) (g.met.C.Calls.adds c.args.calls.now) (scope_in c.args.body.now c.loop-s.locals c.args.outer) h.0 c.args.ss.now c.loop-s.s-index _ c.loop-s-test.true c.s-item.is h.1 (c.in_err-flow.ensures.acts h.0))
 
 pub run_all-returns-then-is_jump-clause-acts : goal.run_all-returns-then-is_jump-clause-acts
-run_all-returns-then-is_jump-clause-acts g t c = ?
+run_all-returns-then-is_jump-clause-acts g t c loops =
+    let h = c.loop-s.invariant.leads loops in
+    next_jumped (context_at (g.C.Calls.arrays c.args.calls.now) (g.C.Calls.call c.args.calls.now) c.args.body.now) (g.met.C.Calls.adds c.args.calls.now) (scope_in c.args.body.now c.loop-s.locals c.args.outer) h.0 c.args.ss.now c.loop-s.s-index _ c.loop-s-test.true c.s-item.is h.1 c.in_ok-flow.flow (c.in_ok-flow.ensures.acts h.0) (sym c.if-is_jump.ensures)
 
 pub run_all-returns-clause-acts : goal.run_all-returns-clause-acts
-run_all-returns-clause-acts g t c = ?
+run_all-returns-clause-acts g t c loops =
+    let h = c.loop-s.invariant.leads loops in
+    all_done (context_at (g.C.Calls.arrays c.args.calls.now) (g.C.Calls.call c.args.calls.now) c.args.body.now) (g.met.C.Calls.adds c.args.calls.now) (scope_in c.args.body.now c.loop-s.locals c.args.outer) h.0 c.args.ss.now c.loop-s.s-index c.loop-s-test.false h.1
 
 pub run_all-returns-clause-scope : goal.run_all-returns-clause-scope
 run_all-returns-clause-scope g t c = ?
 
 pub run_simd-returns-in_err-flow-in-For-clause-acts : goal.run_simd-returns-in_err-flow-in-For-clause-acts
 run_simd-returns-in_err-flow-in-For-clause-acts g t c = ?
-
-pub run_simd-returns-in_err-run_bound-in-For-clause-acts : goal.run_simd-returns-in_err-run_bound-in-For-clause-acts
-run_simd-returns-in_err-run_bound-in-For-clause-acts g t c = ?
 
 pub run_simd-returns-in_err-end-in-For-clause-acts : goal.run_simd-returns-in_err-end-in-For-clause-acts
 run_simd-returns-in_err-end-in-For-clause-acts g t c = ?
@@ -106,19 +129,16 @@ pub run_stmt-returns-else-shares-clause-acts : goal.run_stmt-returns-else-shares
 run_stmt-returns-else-shares-clause-acts g t c = ?
 
 pub run_stmt-returns-in-Local-clause-acts : goal.run_stmt-returns-in-Local-clause-acts
-run_stmt-returns-in-Local-clause-acts g t c = ?
+run_stmt-returns-in-Local-clause-acts g t c loops = same_effect (ap (λ (k : StmtKind). run (context_at (g.C.Calls.arrays c.args.calls.now) (g.C.Calls.call c.args.calls.now) c.args.body.now) (point_in c.args.body.now c.args.locals.now c.args.outer c.args.shares loops) (stmt_kind_of k c.args.s.now.line c.args.s.now.token)) (sym c.in-Local.is)) (c.run_local.ensures.acts c.in-Local.ty refl)
 
 pub run_stmt-returns-in-Assign-clause-acts : goal.run_stmt-returns-in-Assign-clause-acts
-run_stmt-returns-in-Assign-clause-acts g t c = ?
+run_stmt-returns-in-Assign-clause-acts g t c loops = same_effect (ap (λ (k : StmtKind). run (context_at (g.C.Calls.arrays c.args.calls.now) (g.C.Calls.call c.args.calls.now) c.args.body.now) (point_in c.args.body.now c.args.locals.now c.args.outer c.args.shares loops) (stmt_kind_of k c.args.s.now.line c.args.s.now.token)) (sym c.in-Assign.is)) c.run_assign.ensures.acts
 
 pub run_stmt-returns-in-Value-clause-acts : goal.run_stmt-returns-in-Value-clause-acts
-run_stmt-returns-in-Value-clause-acts g t c = ?
+run_stmt-returns-in-Value-clause-acts g t c loops = same_effect (ap (λ (k : StmtKind). run (context_at (g.C.Calls.arrays c.args.calls.now) (g.C.Calls.call c.args.calls.now) c.args.body.now) (point_in c.args.body.now c.args.locals.now c.args.outer c.args.shares loops) (stmt_kind_of k c.args.s.now.line c.args.s.now.token)) (sym c.in-Value.is)) c.run_value.ensures.acts
 
 pub run_stmt-returns-in_err-holds-in-If-clause-acts : goal.run_stmt-returns-in_err-holds-in-If-clause-acts
 run_stmt-returns-in_err-holds-in-If-clause-acts g t c = ?
-
-pub run_stmt-returns-then-holds-clause-acts : goal.run_stmt-returns-then-holds-clause-acts
-run_stmt-returns-then-holds-clause-acts g t c = ?
 
 pub run_stmt-returns-in-Some-clause-acts : goal.run_stmt-returns-in-Some-clause-acts
 run_stmt-returns-in-Some-clause-acts g t c = ?
@@ -127,10 +147,10 @@ pub run_stmt-returns-in-None-clause-acts : goal.run_stmt-returns-in-None-clause-
 run_stmt-returns-in-None-clause-acts g t c = ?
 
 pub run_stmt-returns-in-While-clause-acts : goal.run_stmt-returns-in-While-clause-acts
-run_stmt-returns-in-While-clause-acts g t c = ?
+run_stmt-returns-in-While-clause-acts g t c loops = same_effect (ap (λ (k : StmtKind). repeat c.args.body.now.setting.turns (condition_of (context_at (g.C.Calls.arrays c.args.calls.now) (g.C.Calls.call c.args.calls.now) c.args.body.now) (scope_in c.args.body.now c.args.locals.now c.args.outer) (test_in (stmt_kind_of k c.args.s.now.line c.args.s.now.token))) (turn_of (context_at (g.C.Calls.arrays c.args.calls.now) (g.C.Calls.call c.args.calls.now) c.args.body.now) (point_in c.args.body.now c.args.locals.now c.args.outer false loops) (stmt_kind_of k c.args.s.now.line c.args.s.now.token))) c.in-While.is ∙ (ap (λ (k : StmtKind). run (context_at (g.C.Calls.arrays c.args.calls.now) (g.C.Calls.call c.args.calls.now) c.args.body.now) (point_in c.args.body.now c.args.locals.now c.args.outer c.args.shares loops) (stmt_kind_of k c.args.s.now.line c.args.s.now.token)) (sym c.in-While.is))) (c.run_while.ensures.acts loops)
 
 pub run_stmt-returns-in-Do-clause-acts : goal.run_stmt-returns-in-Do-clause-acts
-run_stmt-returns-in-Do-clause-acts g t c = ?
+run_stmt-returns-in-Do-clause-acts g t c loops = same_effect (ap (λ (k : StmtKind). turns c.args.body.now.setting.turns (condition_of (context_at (g.C.Calls.arrays c.args.calls.now) (g.C.Calls.call c.args.calls.now) c.args.body.now) (scope_in c.args.body.now c.args.locals.now c.args.outer) (test_in (stmt_kind_of k c.args.s.now.line c.args.s.now.token))) (turn_of (context_at (g.C.Calls.arrays c.args.calls.now) (g.C.Calls.call c.args.calls.now) c.args.body.now) (point_in c.args.body.now c.args.locals.now c.args.outer false loops) (stmt_kind_of k c.args.s.now.line c.args.s.now.token))) c.in-Do.is ∙ (ap (λ (k : StmtKind). run (context_at (g.C.Calls.arrays c.args.calls.now) (g.C.Calls.call c.args.calls.now) c.args.body.now) (point_in c.args.body.now c.args.locals.now c.args.outer c.args.shares loops) (stmt_kind_of k c.args.s.now.line c.args.s.now.token)) (sym c.in-Do.is))) (c.run_turns.ensures.acts loops)
 
 pub run_stmt-returns-in_err-flow-in-For-clause-acts : goal.run_stmt-returns-in_err-flow-in-For-clause-acts
 run_stmt-returns-in_err-flow-in-For-clause-acts g t c = ?
@@ -148,13 +168,13 @@ pub run_stmt-returns-in_ok-end-in-For-clause-scope : goal.run_stmt-returns-in_ok
 run_stmt-returns-in_ok-end-in-For-clause-scope g t c = ?
 
 pub run_stmt-returns-in-Break-clause-acts : goal.run_stmt-returns-in-Break-clause-acts
-run_stmt-returns-in-Break-clause-acts g t c = ?
+run_stmt-returns-in-Break-clause-acts g t c loops = same_effect (ap (λ (k : StmtKind). run (context_at (g.C.Calls.arrays c.args.calls.now) (g.C.Calls.call c.args.calls.now) c.args.body.now) (point_in c.args.body.now c.args.locals.now c.args.outer c.args.shares loops) (stmt_kind_of k c.args.s.now.line c.args.s.now.token)) (sym c.in-Break.is)) (acts_ended _ _ broke Broke (λ w. refl))
 
 pub run_stmt-returns-in-Continue-clause-acts : goal.run_stmt-returns-in-Continue-clause-acts
-run_stmt-returns-in-Continue-clause-acts g t c = ?
+run_stmt-returns-in-Continue-clause-acts g t c loops = same_effect (ap (λ (k : StmtKind). run (context_at (g.C.Calls.arrays c.args.calls.now) (g.C.Calls.call c.args.calls.now) c.args.body.now) (point_in c.args.body.now c.args.locals.now c.args.outer c.args.shares loops) (stmt_kind_of k c.args.s.now.line c.args.s.now.token)) (sym c.in-Continue.is)) (acts_ended _ _ continued Continued (λ w. refl))
 
 pub run_stmt-returns-in-Return-clause-acts : goal.run_stmt-returns-in-Return-clause-acts
-run_stmt-returns-in-Return-clause-acts g t c = ?
+run_stmt-returns-in-Return-clause-acts g t c loops = same_effect (ap (λ (k : StmtKind). run (context_at (g.C.Calls.arrays c.args.calls.now) (g.C.Calls.call c.args.calls.now) c.args.body.now) (point_in c.args.body.now c.args.locals.now c.args.outer c.args.shares loops) (stmt_kind_of k c.args.s.now.line c.args.s.now.token)) (sym c.in-Return.is)) c.run_return.ensures.acts
 
 pub run_stmt-returns-in-Simd-clause-acts : goal.run_stmt-returns-in-Simd-clause-acts
 run_stmt-returns-in-Simd-clause-acts g t c = ?
@@ -175,7 +195,7 @@ pub run_all-loop-s-preserved : goal.run_all-loop-s-preserved
 run_all-loop-s-preserved g t c = ?
 
 pub run_turns-loop-left-init : goal.run_turns-loop-left-init
-run_turns-loop-left-init g t c = ?
+run_turns-loop-left-init g t c = record { words = c.requires.words; held = c.requires.held; same = refl; leads = λ loops. leads_itself _ _ _ }
 
 pub run_turns-loop-left-preserved : goal.run_turns-loop-left-preserved
 run_turns-loop-left-preserved g t c = ?
