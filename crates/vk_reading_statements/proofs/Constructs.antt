@@ -28,6 +28,9 @@ use Rattle.vk_reading_statements.proofs.Flowing.{leads_then, acts_ended, then_le
 pub same_values : {arrays : List Array} {b n : Run} {old last now : List Held} {effect : Effect} {r : Result Flow Halt} → now ≡ last → Acts arrays b old effect n last r → Acts arrays b old effect n now r
 same_values {arrays = arrays} {b = b} {n = n} {old = old} {effect = effect} {r = r} e d = subst (λ (vs : List Held). Acts arrays b old effect n vs r) (sym e) d
 
+pub same_flow : {arrays : List Array} {b n : Run} {old last : List Held} {effect : Effect} {one other : Flow} → one ≡ other → Acts arrays b old effect n last (Ok one) → Acts arrays b old effect n last (Ok other)
+same_flow {arrays = arrays} {b = b} {n = n} {old = old} {last = last} {effect = effect} e d = subst (λ (f : Flow). Acts arrays b old effect n last (Ok f)) e d
+
 -- the same for an effect that is the same
 pub same_effect : {arrays : List Array} {b n : Run} {old last : List Held} {one other : Effect} {r : Result Flow Halt} → one ≡ other → Acts arrays b old one n last r → Acts arrays b old other n last r
 same_effect {arrays = arrays} {b = b} {n = n} {old = old} {last = last} {r = r} e d = subst (λ (x : Effect). Acts arrays b old x n last r) e d

@@ -1,13 +1,13 @@
 -- Statements one after another, as the code's list has them.
-use Rattle.std.proofs.Common.{◌≡◌, ℕ, suc, ◌+◌, ◌<◌, ◌≤◌, Bool, true, false, List, [], ◌∷◌, length, drop, get_or, add-one, Result, Ok, Err, refl, sym, ap, subst, ◌∙◌}
+use Rattle.std.proofs.Common.{◌≡◌, ℕ, suc, ◌+◌, ◌<◌, ◌≤◌, Bool, true, false, List, [], ◌∷◌, ◌++◌, length, take, drop, get_or, add-one, Result, Ok, Err, refl, sym, ap, subst, ◌∙◌}
 use Rattle.std.proofs.Math.Seq.{drop-cons}
-use Rattle.std.proofs.lemmas.List.{drop_all}
+use Rattle.std.proofs.lemmas.List.{append_assoc, drop_all, take_more, take-append-drop}
 use Rattle.std.proofs.lemmas.Bool.{false≢true}
 use Rattle.vk_ast.specs.declared.names.NameId.{NameId}
 use Rattle.vk_ast.specs.declared.statements.Stmt.{Stmt}
 use Rattle.vk_ast.specs.Statements.{StmtTrees, no_stmts, more_stmts, stmt_of, list_stmts}
 use Rattle.vk_rules_book.specs.Scopes.{Scope}
-use Rattle.vk_rules_book.specs.Visits.{after}
+use Rattle.vk_rules_book.specs.Visits.{after, after_all}
 use Rattle.vk_meaning.specs.World.{Array}
 use Rattle.vk_meaning.specs.Data.{Datum}
 use Rattle.vk_meaning.specs.Points.{Point, loops_in}
@@ -54,3 +54,32 @@ pub all_done : {arrays : List Array} (c : Context) (calls : (id : NameId) (ds : 
     → Leads arrays b vs whole m us (run_all c (inner_point scope loops) (list_stmts (drop i ss))) → Acts arrays b vs whole m us (Ok Fell)
 all_done {arrays = arrays} c calls {b = b} {m = m} {vs = vs} {us = us} {whole = whole} scope loops ss i past h =
     all_over c calls (inner_point scope loops) (subst (λ (ts : StmtTrees). Leads arrays b vs whole m us (run_all c (inner_point scope loops) ts)) (ap list_stmts (drop_all i ss past)) h)
+
+-- ---- what is visible
+
+pub kept : {X : Type 0} (xs ys : List X) → take (length xs) (xs ++ ys) ≡ xs
+kept [] ys = refl
+kept (x ∷ xs) ys = ap (λ zs. x ∷ zs) (kept xs ys)
+
+pub whole_list : {X : Type 0} (xs : List X) → take (length xs) xs ≡ xs
+whole_list [] = refl
+whole_list (x ∷ xs) = ap (λ zs. x ∷ zs) (whole_list xs)
+
+-- ---- what is declared behind one statement more
+
+after_push : (s : Scope) (ss : List Stmt) (x : Stmt) → after_all s (list_stmts (ss ++ x ∷ [])) ≡ after false (after_all s (list_stmts ss)) (stmt_of x)
+after_push s [] x = refl
+after_push s (y ∷ ss) x = after_push (after false s (stmt_of y)) ss x
+
+pub next_scope : (s now next : Scope) (ss : List Stmt) (i : ℕ) (x : Stmt) → i < length ss → x ≡ get_or ss i x → now ≡ after_all s (list_stmts (take i ss))
+    → next ≡ after false now (stmt_of x) → next ≡ after_all s (list_stmts (take (i + 1) ss))
+next_scope s now next ss i x below is before went =
+    went ∙ ap (λ u. after false u (stmt_of x)) before
+    ∙ sym (ap (λ xs. after_all s (list_stmts xs)) (take_more ss i x below ∙ ap (λ y. take i ss ++ y ∷ []) (sym is)) ∙ after_push s (take i ss) x)
+
+-- the first of a list whose first are the first of another
+pub kept_further : {X : Type 0} (first mid last : List X) → take (length first) mid ≡ first → take (length mid) last ≡ mid → take (length first) last ≡ first
+kept_further first mid last h k =
+    let m : mid ≡ first ++ drop (length first) mid = sym (take-append-drop (length first) mid) ∙ ap (λ xs. xs ++ drop (length first) mid) h in
+    let l : last ≡ mid ++ drop (length mid) last = sym (take-append-drop (length mid) last) ∙ ap (λ xs. xs ++ drop (length mid) last) k in
+    ap (take (length first)) (l ∙ ap (λ xs. xs ++ drop (length mid) last) m ∙ append_assoc first _ _) ∙ kept first _

@@ -1,17 +1,24 @@
-use Rattle.std.proofs.Common.{◌≡◌, ℕ, length, take, false, refl, sym, ap, subst, ◌∙◌, arith, rules}
+use Rattle.std.proofs.Common.{◌≡◌, ℕ, suc, ◌+◌, ◌-◌, List, length, take, false, refl, sym, ap, subst, ◌∙◌, arith, rules}
 use Rattle.vk_ast.specs.declared.statements.Stmt.{Stmt}
 use Rattle.vk_ast.specs.declared.statements.StmtKind.{StmtKind}
 use Rattle.vk_ast.specs.Statements.{list_stmts, stmt_kind_of, stmt_of}
-use Rattle.vk_meaning.specs.Statements.{broke, condition_of, continued, repeat, run, run_all, turns}
+use Rattle.vk_rules_book.specs.declared.contexts.Binding.{Binding}
+use Rattle.vk_rules_names.specs.Seen.{scope_at}
+use Rattle.vk_meaning.specs.Statements.{broke, condition_of, continued, repeat, run, run_all, run_simd, turns}
 use Rattle.vk_reading_steps.specs.Settings.{AreHeld}
 use Rattle.vk_reading_statements.specs.declared.flow.Flow.TheVariants.{Broke, Continued}
 use Rattle.vk_reading_statements.specs.Acts.{Leads}
 use Rattle.vk_reading_statements.specs.Loops.{test_in, turn_of}
 use Rattle.vk_reading_statements.specs.Places.{context_at, point_in, scope_in}
-use Rattle.vk_reading_statements.proofs.Constructs.{same_effect, same_values, turns_over, while_halted}
-use Rattle.vk_reading_statements.proofs.Exits.{exit_acts}
-use Rattle.vk_reading_statements.proofs.Flowing.{acts_ended, jumps, leads_itself}
-use Rattle.vk_reading_statements.proofs.Sequence.{all_done, next_halted, next_jumped}
+use Rattle.vk_reading_statements.proofs.AddsAll.{adds_condition, adds_turn}
+use Rattle.vk_reading_statements.proofs.Constructs.{body_halted, same_effect, same_flow, same_values, test_halted, test_off, test_on, third_left, third_run, turn_halted, turn_left, turns_over, while_halted, while_off, while_on}
+use Rattle.vk_reading_statements.proofs.Exits.{exit_acts, same_test}
+use Rattle.vk_reading_statements.proofs.Flowing.{acts_ended, goes_on, jumps, leads_itself}
+use Rattle.vk_reading_statements.proofs.Sequence.{all_done, fell_if, kept, kept_further, next_fell, next_halted, next_jumped, next_scope, whole_list}
+use Rattle.std.proofs.lemmas.List.{take_all}
+use Rattle.std.proofs.lemmas.Result.{IfOk-weaker, on_ok_weaker}
+use Rattle.vk_rules_book.specs.Visits.{after, after_all}
+use Rattle.vk_meaning.specs.Points.{loops_in}
 use Rattle.vk_reading_statements.proofs.statements.+running.Goals as goal
 
 pub run_apart-returns-in_err-flow-clause-acts : goal.run_apart-returns-in_err-flow-clause-acts
@@ -64,13 +71,21 @@ run_turn-returns-in-Do-clause-acts g t c loops =
     ∙ ap (λ (k : StmtKind). turn_of (context_at (g.C.Calls.arrays c.args.calls.now) (g.C.Calls.call c.args.calls.now) c.args.body.now) (point_in c.args.body.now c.args.locals.now c.args.outer false loops) (stmt_kind_of k c.args.s.now.line c.args.s.now.token)) (sym c.in-Do.is)) (c.run_inside-in-Do.ensures.acts loops)
 
 pub run_turn-returns-in_err-flow-in-For-clause-acts : goal.run_turn-returns-in_err-flow-in-For-clause-acts
-run_turn-returns-in_err-flow-in-For-clause-acts g t c = ?
+run_turn-returns-in_err-flow-in-For-clause-acts g t c loops =
+    let d : c.deref-in-For.result.now ≡ c.in-For.stmt.value = search rules in
+    exit_acts c.from_residual.result c.from_residual.ensures.1 (same_effect (ap (λ (k : StmtKind). turn_of (context_at (g.C.Calls.arrays c.args.calls.now) (g.C.Calls.call c.args.calls.now) c.args.body.now) (point_in c.args.body.now c.args.locals.now c.args.outer false loops) (stmt_kind_of k c.args.s.now.line c.args.s.now.token)) (sym c.in-For.is)) (body_halted (context_at (g.C.Calls.arrays c.args.calls.now) (g.C.Calls.call c.args.calls.now) c.args.body.now) (g.met.C.Calls.adds c.args.calls.now) (point_in c.args.body.now c.args.locals.now c.args.outer false loops) (stmt_of c.in-For.third.value) (stmt_of c.in-For.stmt.value) (same_effect (ap (λ (s : Stmt). run (context_at (g.C.Calls.arrays c.args.calls.now) (g.C.Calls.call c.args.calls.now) c.args.body.now) (point_in c.args.body.now c.args.locals.now (length c.args.locals.now.bindings.items) false loops) (stmt_of s)) d) (c.in_err-flow-in-For.ensures.acts loops))))
 
 pub run_turn-returns-then-leaves_loop-clause-acts : goal.run_turn-returns-then-leaves_loop-clause-acts
-run_turn-returns-then-leaves_loop-clause-acts g t c = ?
+run_turn-returns-then-leaves_loop-clause-acts g t c loops =
+    let d : c.deref-in-For.result.now ≡ c.in-For.stmt.value = search rules in
+    same_effect (ap (λ (k : StmtKind). turn_of (context_at (g.C.Calls.arrays c.args.calls.now) (g.C.Calls.call c.args.calls.now) c.args.body.now) (point_in c.args.body.now c.args.locals.now c.args.outer false loops) (stmt_kind_of k c.args.s.now.line c.args.s.now.token)) (sym c.in-For.is)) (third_left (context_at (g.C.Calls.arrays c.args.calls.now) (g.C.Calls.call c.args.calls.now) c.args.body.now) (g.met.C.Calls.adds c.args.calls.now) (point_in c.args.body.now c.args.locals.now c.args.outer false loops) (stmt_of c.in-For.third.value) (stmt_of c.in-For.stmt.value) c.in_ok-flow-in-For.flow (same_effect (ap (λ (s : Stmt). run (context_at (g.C.Calls.arrays c.args.calls.now) (g.C.Calls.call c.args.calls.now) c.args.body.now) (point_in c.args.body.now c.args.locals.now (length c.args.locals.now.bindings.items) false loops) (stmt_of s)) d) (c.in_ok-flow-in-For.ensures.acts loops)) (sym c.if-leaves_loop.ensures))
 
 pub run_turn-returns-else-leaves_loop-clause-acts : goal.run_turn-returns-else-leaves_loop-clause-acts
-run_turn-returns-else-leaves_loop-clause-acts g t c = ?
+run_turn-returns-else-leaves_loop-clause-acts g t c loops =
+    let d : c.deref-in-For.result.now ≡ c.in-For.stmt.value = search rules in
+    let e : c.deref-in-For-2.result.now ≡ c.in-For.third.value = search rules in
+    same_effect (ap (λ (k : StmtKind). turn_of (context_at (g.C.Calls.arrays c.args.calls.now) (g.C.Calls.call c.args.calls.now) c.args.body.now) (point_in c.args.body.now c.args.locals.now c.args.outer false loops) (stmt_kind_of k c.args.s.now.line c.args.s.now.token)) (sym c.in-For.is)) (third_run (context_at (g.C.Calls.arrays c.args.calls.now) (g.C.Calls.call c.args.calls.now) c.args.body.now) (g.met.C.Calls.adds c.args.calls.now) (point_in c.args.body.now c.args.locals.now c.args.outer false loops) (stmt_of c.in-For.third.value) (stmt_of c.in-For.stmt.value) c.in_ok-flow-in-For.flow (same_effect (ap (λ (s : Stmt). run (context_at (g.C.Calls.arrays c.args.calls.now) (g.C.Calls.call c.args.calls.now) c.args.body.now) (point_in c.args.body.now c.args.locals.now (length c.args.locals.now.bindings.items) false loops) (stmt_of s)) d) (c.in_ok-flow-in-For.ensures.acts loops)) (sym c.if-leaves_loop.ensures)
+    (same_effect (λ i. run (context_at (g.C.Calls.arrays c.args.calls.now) (g.C.Calls.call c.args.calls.now) c.args.body.now) (record { scope = scope_at c.args.body.now.file (c.in_ok-flow-in-For.ensures.same i) c.args.outer; shares = false; loops = loops }) (stmt_of (e i))) (c.run_apart.ensures.acts loops)))
 
 pub run_while-returns-in_err-test-clause-acts : goal.run_while-returns-in_err-test-clause-acts
 run_while-returns-in_err-test-clause-acts g t c loops = exit_acts c.from_residual.result c.from_residual.ensures.1 (while_halted (context_at (g.C.Calls.arrays c.args.calls.now) (g.C.Calls.call c.args.calls.now) c.args.body.now) (g.met.C.Calls.adds c.args.calls.now) (point_in c.args.body.now c.args.locals.now c.args.outer false loops) (stmt_of c.args.s.now) c.in_err-test.ensures.decides)
@@ -79,13 +94,22 @@ pub run_rounds-returns-then-is_jump-clause-acts : goal.run_rounds-returns-then-i
 run_rounds-returns-then-is_jump-clause-acts g t c loops = jumps _ _ _ c.args.flow (sym c.if-is_jump.ensures)
 
 pub run_turns-returns-in_err-flow-clause-acts : goal.run_turns-returns-in_err-flow-clause-acts
-run_turns-returns-in_err-flow-clause-acts g t c = ?
+run_turns-returns-in_err-flow-clause-acts g t c loops =
+    let up : c.loop-left.left ≡ suc (c.loop-left.left - 1) = omega (arith, c.loop-left-test.true) in
+    let so_far = subst (λ (n : ℕ). Leads (g.C.Calls.arrays c.args.calls.now) _ _ _ _ _ (turns n (condition_of (context_at (g.C.Calls.arrays c.args.calls.now) (g.C.Calls.call c.args.calls.now) c.args.body.now) (scope_in c.args.body.now c.args.locals.now c.args.outer) (test_in (stmt_of c.args.s.now))) (turn_of (context_at (g.C.Calls.arrays c.args.calls.now) (g.C.Calls.call c.args.calls.now) c.args.body.now) (point_in c.args.body.now c.args.locals.now c.args.outer false loops) (stmt_of c.args.s.now)))) up (c.loop-left.invariant.leads loops) in
+    exit_acts c.from_residual.result c.from_residual.ensures.1 (turn_halted (context_at (g.C.Calls.arrays c.args.calls.now) (g.C.Calls.call c.args.calls.now) c.args.body.now) (g.met.C.Calls.adds c.args.calls.now) (c.loop-left.left - 1) (condition_of (context_at (g.C.Calls.arrays c.args.calls.now) (g.C.Calls.call c.args.calls.now) c.args.body.now) (scope_in c.args.body.now c.args.locals.now c.args.outer) (test_in (stmt_of c.args.s.now))) (turn_of (context_at (g.C.Calls.arrays c.args.calls.now) (g.C.Calls.call c.args.calls.now) c.args.body.now) (point_in c.args.body.now c.args.locals.now c.args.outer false loops) (stmt_of c.args.s.now)) (adds_condition (context_at (g.C.Calls.arrays c.args.calls.now) (g.C.Calls.call c.args.calls.now) c.args.body.now) (g.met.C.Calls.adds c.args.calls.now) (scope_in c.args.body.now c.args.locals.now c.args.outer) (test_in (stmt_of c.args.s.now))) (adds_turn (context_at (g.C.Calls.arrays c.args.calls.now) (g.C.Calls.call c.args.calls.now) c.args.body.now) (g.met.C.Calls.adds c.args.calls.now) (point_in c.args.body.now c.args.locals.now c.args.outer false loops) (stmt_of c.args.s.now)) so_far (same_effect (ap (λ (bs : List Binding). turn_of (context_at (g.C.Calls.arrays c.args.calls.now) (g.C.Calls.call c.args.calls.now) c.args.body.now) (record { scope = scope_at c.args.body.now.file bs c.args.outer; shares = false; loops = loops }) (stmt_of c.args.s.now)) c.loop-left.invariant.same) (c.in_err-flow.ensures.acts loops)))
 
 pub run_turns-returns-then-leaves_loop-clause-acts : goal.run_turns-returns-then-leaves_loop-clause-acts
-run_turns-returns-then-leaves_loop-clause-acts g t c = ?
+run_turns-returns-then-leaves_loop-clause-acts g t c loops =
+    let up : c.loop-left.left ≡ suc (c.loop-left.left - 1) = omega (arith, c.loop-left-test.true) in
+    let so_far = subst (λ (n : ℕ). Leads (g.C.Calls.arrays c.args.calls.now) _ _ _ _ _ (turns n (condition_of (context_at (g.C.Calls.arrays c.args.calls.now) (g.C.Calls.call c.args.calls.now) c.args.body.now) (scope_in c.args.body.now c.args.locals.now c.args.outer) (test_in (stmt_of c.args.s.now))) (turn_of (context_at (g.C.Calls.arrays c.args.calls.now) (g.C.Calls.call c.args.calls.now) c.args.body.now) (point_in c.args.body.now c.args.locals.now c.args.outer false loops) (stmt_of c.args.s.now)))) up (c.loop-left.invariant.leads loops) in
+    same_flow (sym c.behind_loop.ensures) (turn_left (context_at (g.C.Calls.arrays c.args.calls.now) (g.C.Calls.call c.args.calls.now) c.args.body.now) (g.met.C.Calls.adds c.args.calls.now) (c.loop-left.left - 1) (condition_of (context_at (g.C.Calls.arrays c.args.calls.now) (g.C.Calls.call c.args.calls.now) c.args.body.now) (scope_in c.args.body.now c.args.locals.now c.args.outer) (test_in (stmt_of c.args.s.now))) (turn_of (context_at (g.C.Calls.arrays c.args.calls.now) (g.C.Calls.call c.args.calls.now) c.args.body.now) (point_in c.args.body.now c.args.locals.now c.args.outer false loops) (stmt_of c.args.s.now)) (adds_condition (context_at (g.C.Calls.arrays c.args.calls.now) (g.C.Calls.call c.args.calls.now) c.args.body.now) (g.met.C.Calls.adds c.args.calls.now) (scope_in c.args.body.now c.args.locals.now c.args.outer) (test_in (stmt_of c.args.s.now))) (adds_turn (context_at (g.C.Calls.arrays c.args.calls.now) (g.C.Calls.call c.args.calls.now) c.args.body.now) (g.met.C.Calls.adds c.args.calls.now) (point_in c.args.body.now c.args.locals.now c.args.outer false loops) (stmt_of c.args.s.now)) so_far c.in_ok-flow.flow (same_effect (ap (λ (bs : List Binding). turn_of (context_at (g.C.Calls.arrays c.args.calls.now) (g.C.Calls.call c.args.calls.now) c.args.body.now) (record { scope = scope_at c.args.body.now.file bs c.args.outer; shares = false; loops = loops }) (stmt_of c.args.s.now)) c.loop-left.invariant.same) (c.in_ok-flow.ensures.acts loops)) (sym c.if-leaves_loop.ensures))
 
 pub run_turns-returns-in_err-test-clause-acts : goal.run_turns-returns-in_err-test-clause-acts
-run_turns-returns-in_err-test-clause-acts g t c = ?
+run_turns-returns-in_err-test-clause-acts g t c loops =
+    let up : c.loop-left.left ≡ suc (c.loop-left.left - 1) = omega (arith, c.loop-left-test.true) in
+    let so_far = subst (λ (n : ℕ). Leads (g.C.Calls.arrays c.args.calls.now) _ _ _ _ _ (turns n (condition_of (context_at (g.C.Calls.arrays c.args.calls.now) (g.C.Calls.call c.args.calls.now) c.args.body.now) (scope_in c.args.body.now c.args.locals.now c.args.outer) (test_in (stmt_of c.args.s.now))) (turn_of (context_at (g.C.Calls.arrays c.args.calls.now) (g.C.Calls.call c.args.calls.now) c.args.body.now) (point_in c.args.body.now c.args.locals.now c.args.outer false loops) (stmt_of c.args.s.now)))) up (c.loop-left.invariant.leads loops) in
+    exit_acts c.from_residual-in_err-test.result c.from_residual-in_err-test.ensures.1 (test_halted (context_at (g.C.Calls.arrays c.args.calls.now) (g.C.Calls.call c.args.calls.now) c.args.body.now) (g.met.C.Calls.adds c.args.calls.now) (c.loop-left.left - 1) (condition_of (context_at (g.C.Calls.arrays c.args.calls.now) (g.C.Calls.call c.args.calls.now) c.args.body.now) (scope_in c.args.body.now c.args.locals.now c.args.outer) (test_in (stmt_of c.args.s.now))) (turn_of (context_at (g.C.Calls.arrays c.args.calls.now) (g.C.Calls.call c.args.calls.now) c.args.body.now) (point_in c.args.body.now c.args.locals.now c.args.outer false loops) (stmt_of c.args.s.now)) (adds_condition (context_at (g.C.Calls.arrays c.args.calls.now) (g.C.Calls.call c.args.calls.now) c.args.body.now) (g.met.C.Calls.adds c.args.calls.now) (scope_in c.args.body.now c.args.locals.now c.args.outer) (test_in (stmt_of c.args.s.now))) (adds_turn (context_at (g.C.Calls.arrays c.args.calls.now) (g.C.Calls.call c.args.calls.now) c.args.body.now) (g.met.C.Calls.adds c.args.calls.now) (point_in c.args.body.now c.args.locals.now c.args.outer false loops) (stmt_of c.args.s.now)) so_far c.in_ok-flow.flow (same_effect (ap (λ (bs : List Binding). turn_of (context_at (g.C.Calls.arrays c.args.calls.now) (g.C.Calls.call c.args.calls.now) c.args.body.now) (record { scope = scope_at c.args.body.now.file bs c.args.outer; shares = false; loops = loops }) (stmt_of c.args.s.now)) c.loop-left.invariant.same) (c.in_ok-flow.ensures.acts loops)) (sym c.if-leaves_loop.ensures) (same_test (ap (λ (bs : List Binding). condition_of (context_at (g.C.Calls.arrays c.args.calls.now) (g.C.Calls.call c.args.calls.now) c.args.body.now) (scope_at c.args.body.now.file bs c.args.outer) (test_in (stmt_of c.args.s.now))) (c.in_ok-flow.ensures.same ∙ c.loop-left.invariant.same)) c.in_err-test.ensures.decides))
 
 pub run_turns-returns-clause-acts : goal.run_turns-returns-clause-acts
 run_turns-returns-clause-acts g t c loops =
@@ -108,7 +132,7 @@ run_all-returns-clause-acts g t c loops =
     all_done (context_at (g.C.Calls.arrays c.args.calls.now) (g.C.Calls.call c.args.calls.now) c.args.body.now) (g.met.C.Calls.adds c.args.calls.now) (scope_in c.args.body.now c.loop-s.locals c.args.outer) h.0 c.args.ss.now c.loop-s.s-index c.loop-s-test.false h.1
 
 pub run_all-returns-clause-scope : goal.run_all-returns-clause-scope
-run_all-returns-clause-scope g t c = ?
+run_all-returns-clause-scope g t c e = c.loop-s.invariant.scope ∙ ap (λ (xs : List Stmt). after_all (scope_in c.args.body.now c.args.locals.now c.args.outer) (list_stmts xs)) (take_all c.loop-s.s-index c.args.ss.now c.loop-s-test.false)
 
 pub run_simd-returns-in_err-flow-in-For-clause-acts : goal.run_simd-returns-in_err-flow-in-For-clause-acts
 run_simd-returns-in_err-flow-in-For-clause-acts g t c = ?
@@ -177,25 +201,58 @@ pub run_stmt-returns-in-Return-clause-acts : goal.run_stmt-returns-in-Return-cla
 run_stmt-returns-in-Return-clause-acts g t c loops = same_effect (ap (λ (k : StmtKind). run (context_at (g.C.Calls.arrays c.args.calls.now) (g.C.Calls.call c.args.calls.now) c.args.body.now) (point_in c.args.body.now c.args.locals.now c.args.outer c.args.shares loops) (stmt_kind_of k c.args.s.now.line c.args.s.now.token)) (sym c.in-Return.is)) c.run_return.ensures.acts
 
 pub run_stmt-returns-in-Simd-clause-acts : goal.run_stmt-returns-in-Simd-clause-acts
-run_stmt-returns-in-Simd-clause-acts g t c = ?
+run_stmt-returns-in-Simd-clause-acts g t c loops =
+    let d : c.deref-in-Simd.result.now ≡ c.in-Simd.s.value = search rules in
+    same_effect (ap (λ (s : Stmt). run_simd (context_at (g.C.Calls.arrays c.args.calls.now) (g.C.Calls.call c.args.calls.now) c.args.body.now) (point_in c.args.body.now c.args.locals.now (length c.args.locals.now.bindings.items) false (loops + 1)) (stmt_of s)) d ∙ (ap (λ (k : StmtKind). run (context_at (g.C.Calls.arrays c.args.calls.now) (g.C.Calls.call c.args.calls.now) c.args.body.now) (point_in c.args.body.now c.args.locals.now c.args.outer c.args.shares loops) (stmt_kind_of k c.args.s.now.line c.args.s.now.token)) (sym c.in-Simd.is))) (c.run_simd.ensures.acts (loops + 1))
 
 pub run_stmt-returns-in-Local-clause-scope : goal.run_stmt-returns-in-Local-clause-scope
-run_stmt-returns-in-Local-clause-scope g t c = ?
+run_stmt-returns-in-Local-clause-scope g t c = IfOk-weaker c.run_local.result _ _ (λ f h e. ap (λ (bs : List Binding). scope_at c.args.body.now.file bs c.args.outer) h ∙ ap (λ (k : StmtKind). after c.args.shares (scope_in c.args.body.now c.args.locals.now c.args.outer) (stmt_kind_of k c.args.s.now.line c.args.s.now.token)) (sym c.in-Local.is)) c.run_local.ensures.bindings
 
 pub run_stmt-returns-in-Local-clause-visible : goal.run_stmt-returns-in-Local-clause-visible
-run_stmt-returns-in-Local-clause-visible g t c = ?
+run_stmt-returns-in-Local-clause-visible g t c = on_ok_weaker c.run_local.result (λ h. ap (take (length c.args.locals.now.bindings.items)) h ∙ kept c.args.locals.now.bindings.items _) c.run_local.ensures.bindings
 
 pub run_stmt-returns-then-shares-clause-scope : goal.run_stmt-returns-then-shares-clause-scope
 run_stmt-returns-then-shares-clause-scope g t c = ?
 
 pub run_all-loop-s-init : goal.run_all-loop-s-init
-run_all-loop-s-init g t c = ?
+run_all-loop-s-init g t c = record { words = c.requires.words; held = c.requires.held; visible = whole_list c.args.locals.now.bindings.items; scope = refl; leads = λ loops. (loops, leads_itself _ _ _) }
 
 pub run_all-loop-s-preserved : goal.run_all-loop-s-preserved
-run_all-loop-s-preserved g t c = ?
+run_all-loop-s-preserved g t c = record {
+  words = c.in_ok-flow.ensures.words;
+  held = c.in_ok-flow.ensures.held;
+  visible = kept_further c.args.locals.now.bindings.items c.loop-s.locals.bindings.items _ c.loop-s.invariant.visible c.in_ok-flow.ensures.visible;
+  scope = next_scope (scope_in c.args.body.now c.args.locals.now c.args.outer) (scope_in c.args.body.now c.loop-s.locals c.args.outer) _ c.args.ss.now c.loop-s.s-index _ c.loop-s-test.true c.s-item.is c.loop-s.invariant.scope (c.in_ok-flow.ensures.scope (fell_if c.in_ok-flow.flow (sym c.if-is_jump.ensures)));
+  leads = λ loops.
+      let h = c.loop-s.invariant.leads loops in
+      (h.0 + loops_in (stmt_of c.s-item.result), next_fell (context_at (g.C.Calls.arrays c.args.calls.now) (g.C.Calls.call c.args.calls.now) c.args.body.now) (g.met.C.Calls.adds c.args.calls.now) (scope_in c.args.body.now c.loop-s.locals c.args.outer) h.0 c.args.ss.now c.loop-s.s-index _ c.loop-s-test.true c.s-item.is h.1 c.in_ok-flow.flow _ (c.in_ok-flow.ensures.acts h.0) (sym c.if-is_jump.ensures) c.in_ok-flow.ensures.scope);
+}
 
 pub run_turns-loop-left-init : goal.run_turns-loop-left-init
 run_turns-loop-left-init g t c = record { words = c.requires.words; held = c.requires.held; same = refl; leads = λ loops. leads_itself _ _ _ }
 
 pub run_turns-loop-left-preserved : goal.run_turns-loop-left-preserved
-run_turns-loop-left-preserved g t c = ?
+run_turns-loop-left-preserved g t c = record {
+  words = c.in_ok-test.ensures.words;
+  held = c.in_ok-flow.ensures.held;
+  same = c.in_ok-flow.ensures.same ∙ c.loop-left.invariant.same;
+  leads = λ loops.
+    let up : c.loop-left.left ≡ suc (c.loop-left.left - 1) = omega (arith, c.loop-left-test.true) in
+    let so_far = subst (λ (n : ℕ). Leads (g.C.Calls.arrays c.args.calls.now) _ _ _ _ _ (turns n (condition_of (context_at (g.C.Calls.arrays c.args.calls.now) (g.C.Calls.call c.args.calls.now) c.args.body.now) (scope_in c.args.body.now c.args.locals.now c.args.outer) (test_in (stmt_of c.args.s.now))) (turn_of (context_at (g.C.Calls.arrays c.args.calls.now) (g.C.Calls.call c.args.calls.now) c.args.body.now) (point_in c.args.body.now c.args.locals.now c.args.outer false loops) (stmt_of c.args.s.now)))) up (c.loop-left.invariant.leads loops) in
+      test_on (context_at (g.C.Calls.arrays c.args.calls.now) (g.C.Calls.call c.args.calls.now) c.args.body.now) (g.met.C.Calls.adds c.args.calls.now) (c.loop-left.left - 1) (condition_of (context_at (g.C.Calls.arrays c.args.calls.now) (g.C.Calls.call c.args.calls.now) c.args.body.now) (scope_in c.args.body.now c.args.locals.now c.args.outer) (test_in (stmt_of c.args.s.now))) (turn_of (context_at (g.C.Calls.arrays c.args.calls.now) (g.C.Calls.call c.args.calls.now) c.args.body.now) (point_in c.args.body.now c.args.locals.now c.args.outer false loops) (stmt_of c.args.s.now)) (adds_condition (context_at (g.C.Calls.arrays c.args.calls.now) (g.C.Calls.call c.args.calls.now) c.args.body.now) (g.met.C.Calls.adds c.args.calls.now) (scope_in c.args.body.now c.args.locals.now c.args.outer) (test_in (stmt_of c.args.s.now))) (adds_turn (context_at (g.C.Calls.arrays c.args.calls.now) (g.C.Calls.call c.args.calls.now) c.args.body.now) (g.met.C.Calls.adds c.args.calls.now) (point_in c.args.body.now c.args.locals.now c.args.outer false loops) (stmt_of c.args.s.now)) so_far c.in_ok-flow.flow (same_effect (ap (λ (bs : List Binding). turn_of (context_at (g.C.Calls.arrays c.args.calls.now) (g.C.Calls.call c.args.calls.now) c.args.body.now) (record { scope = scope_at c.args.body.now.file bs c.args.outer; shares = false; loops = loops }) (stmt_of c.args.s.now)) c.loop-left.invariant.same) (c.in_ok-flow.ensures.acts loops)) (sym c.if-leaves_loop.ensures) c.in_ok-test.field-0 (same_test (ap (λ (bs : List Binding). condition_of (context_at (g.C.Calls.arrays c.args.calls.now) (g.C.Calls.call c.args.calls.now) c.args.body.now) (scope_at c.args.body.now.file bs c.args.outer) (test_in (stmt_of c.args.s.now))) (c.in_ok-flow.ensures.same ∙ c.loop-left.invariant.same)) c.in_ok-test.ensures.decides) (search rules);
+}
+
+pub run_while-returns-then-branch-clause-acts : goal.run_while-returns-then-branch-clause-acts
+run_while-returns-then-branch-clause-acts g t c loops = while_on (context_at (g.C.Calls.arrays c.args.calls.now) (g.C.Calls.call c.args.calls.now) c.args.body.now) (g.met.C.Calls.adds c.args.calls.now) (point_in c.args.body.now c.args.locals.now c.args.outer false loops) (stmt_of c.args.s.now) c.in_ok-test.field-0 c.in_ok-test.ensures.decides c.if-branch.true (c.run_turns.ensures.acts loops)
+
+pub run_while-returns-clause-acts : goal.run_while-returns-clause-acts
+run_while-returns-clause-acts g t c loops = while_off (context_at (g.C.Calls.arrays c.args.calls.now) (g.C.Calls.call c.args.calls.now) c.args.body.now) (g.met.C.Calls.adds c.args.calls.now) (point_in c.args.body.now c.args.locals.now c.args.outer false loops) (stmt_of c.args.s.now) c.in_ok-test.field-0 c.in_ok-test.ensures.decides c.if-branch.false
+
+pub run_rounds-returns-clause-acts : goal.run_rounds-returns-clause-acts
+run_rounds-returns-clause-acts g t c loops = same_effect (sym (goes_on (repeat c.args.body.now.setting.turns (condition_of (context_at (g.C.Calls.arrays c.args.calls.now) (g.C.Calls.call c.args.calls.now) c.args.body.now) (scope_in c.args.body.now c.args.locals.now c.args.outer) (test_in (stmt_of c.args.s.now))) (turn_of (context_at (g.C.Calls.arrays c.args.calls.now) (g.C.Calls.call c.args.calls.now) c.args.body.now) (point_in c.args.body.now c.args.locals.now c.args.outer false loops) (stmt_of c.args.s.now))) c.args.flow (sym c.if-is_jump.ensures))) (c.run_while.ensures.acts loops)
+
+pub run_turns-returns-then-not-branch-clause-acts : goal.run_turns-returns-then-not-branch-clause-acts
+run_turns-returns-then-not-branch-clause-acts g t c loops =
+    let up : c.loop-left.left ≡ suc (c.loop-left.left - 1) = omega (arith, c.loop-left-test.true) in
+    let so_far = subst (λ (n : ℕ). Leads (g.C.Calls.arrays c.args.calls.now) _ _ _ _ _ (turns n (condition_of (context_at (g.C.Calls.arrays c.args.calls.now) (g.C.Calls.call c.args.calls.now) c.args.body.now) (scope_in c.args.body.now c.args.locals.now c.args.outer) (test_in (stmt_of c.args.s.now))) (turn_of (context_at (g.C.Calls.arrays c.args.calls.now) (g.C.Calls.call c.args.calls.now) c.args.body.now) (point_in c.args.body.now c.args.locals.now c.args.outer false loops) (stmt_of c.args.s.now)))) up (c.loop-left.invariant.leads loops) in
+    test_off (context_at (g.C.Calls.arrays c.args.calls.now) (g.C.Calls.call c.args.calls.now) c.args.body.now) (g.met.C.Calls.adds c.args.calls.now) (c.loop-left.left - 1) (condition_of (context_at (g.C.Calls.arrays c.args.calls.now) (g.C.Calls.call c.args.calls.now) c.args.body.now) (scope_in c.args.body.now c.args.locals.now c.args.outer) (test_in (stmt_of c.args.s.now))) (turn_of (context_at (g.C.Calls.arrays c.args.calls.now) (g.C.Calls.call c.args.calls.now) c.args.body.now) (point_in c.args.body.now c.args.locals.now c.args.outer false loops) (stmt_of c.args.s.now)) (adds_condition (context_at (g.C.Calls.arrays c.args.calls.now) (g.C.Calls.call c.args.calls.now) c.args.body.now) (g.met.C.Calls.adds c.args.calls.now) (scope_in c.args.body.now c.args.locals.now c.args.outer) (test_in (stmt_of c.args.s.now))) (adds_turn (context_at (g.C.Calls.arrays c.args.calls.now) (g.C.Calls.call c.args.calls.now) c.args.body.now) (g.met.C.Calls.adds c.args.calls.now) (point_in c.args.body.now c.args.locals.now c.args.outer false loops) (stmt_of c.args.s.now)) so_far c.in_ok-flow.flow (same_effect (ap (λ (bs : List Binding). turn_of (context_at (g.C.Calls.arrays c.args.calls.now) (g.C.Calls.call c.args.calls.now) c.args.body.now) (record { scope = scope_at c.args.body.now.file bs c.args.outer; shares = false; loops = loops }) (stmt_of c.args.s.now)) c.loop-left.invariant.same) (c.in_ok-flow.ensures.acts loops)) (sym c.if-leaves_loop.ensures) c.in_ok-test.field-0 (same_test (ap (λ (bs : List Binding). condition_of (context_at (g.C.Calls.arrays c.args.calls.now) (g.C.Calls.call c.args.calls.now) c.args.body.now) (scope_at c.args.body.now.file bs c.args.outer) (test_in (stmt_of c.args.s.now))) (c.in_ok-flow.ensures.same ∙ c.loop-left.invariant.same)) c.in_ok-test.ensures.decides) (search rules)
