@@ -83,3 +83,6 @@ kept_further first mid last h k =
     let m : mid ≡ first ++ drop (length first) mid = sym (take-append-drop (length first) mid) ∙ ap (λ xs. xs ++ drop (length first) mid) h in
     let l : last ≡ mid ++ drop (length mid) last = sym (take-append-drop (length mid) last) ∙ ap (λ xs. xs ++ drop (length mid) last) k in
     ap (take (length first)) (l ∙ ap (λ xs. xs ++ drop (length mid) last) m ∙ append_assoc first _ _) ∙ kept first _
+
+pub same_rest : {arrays : List Array} {b m : Run} {vs us : List Held} {whole one other : Effect} → one ≡ other → Leads arrays b vs whole m us one → Leads arrays b vs whole m us other
+same_rest {arrays = arrays} {b = b} {m = m} {vs = vs} {us = us} {whole = whole} e h = subst (λ (x : Effect). Leads arrays b vs whole m us x) e h

@@ -7,14 +7,13 @@ use Rattle.vk_rules_names.specs.Seen.{scope_at}
 use Rattle.vk_meaning.specs.Statements.{broke, condition_of, continued, repeat, run, run_all, run_simd, turns}
 use Rattle.vk_reading_steps.specs.Settings.{AreHeld}
 use Rattle.vk_reading_statements.specs.declared.flow.Flow.TheVariants.{Broke, Continued}
-use Rattle.vk_reading_statements.specs.Acts.{Leads}
 use Rattle.vk_reading_statements.specs.Loops.{test_in, turn_of}
 use Rattle.vk_reading_statements.specs.Places.{context_at, point_in, scope_in}
 use Rattle.vk_reading_statements.proofs.AddsAll.{adds_condition, adds_turn}
 use Rattle.vk_reading_statements.proofs.Constructs.{body_halted, same_effect, same_flow, same_values, test_halted, test_off, test_on, third_left, third_run, turn_halted, turn_left, turns_over, while_halted, while_off, while_on}
 use Rattle.vk_reading_statements.proofs.Exits.{exit_acts, same_test}
 use Rattle.vk_reading_statements.proofs.Flowing.{acts_ended, goes_on, jumps, leads_itself}
-use Rattle.vk_reading_statements.proofs.Sequence.{all_done, fell_if, kept, kept_further, next_fell, next_halted, next_jumped, next_scope, whole_list}
+use Rattle.vk_reading_statements.proofs.Sequence.{all_done, fell_if, kept, kept_further, next_fell, next_halted, next_jumped, next_scope, same_rest, whole_list}
 use Rattle.std.proofs.lemmas.List.{take_all}
 use Rattle.std.proofs.lemmas.Result.{IfOk-weaker, on_ok_weaker}
 use Rattle.vk_rules_book.specs.Visits.{after, after_all}
@@ -96,25 +95,25 @@ run_rounds-returns-then-is_jump-clause-acts g t c loops = jumps _ _ _ c.args.flo
 pub run_turns-returns-in_err-flow-clause-acts : goal.run_turns-returns-in_err-flow-clause-acts
 run_turns-returns-in_err-flow-clause-acts g t c loops =
     let up : c.loop-left.left ≡ suc (c.loop-left.left - 1) = omega (arith, c.loop-left-test.true) in
-    let so_far = subst (λ (n : ℕ). Leads (g.C.Calls.arrays c.args.calls.now) _ _ _ _ _ (turns n (condition_of (context_at (g.C.Calls.arrays c.args.calls.now) (g.C.Calls.call c.args.calls.now) c.args.body.now) (scope_in c.args.body.now c.args.locals.now c.args.outer) (test_in (stmt_of c.args.s.now))) (turn_of (context_at (g.C.Calls.arrays c.args.calls.now) (g.C.Calls.call c.args.calls.now) c.args.body.now) (point_in c.args.body.now c.args.locals.now c.args.outer false loops) (stmt_of c.args.s.now)))) up (c.loop-left.invariant.leads loops) in
+    let so_far = same_rest (ap (λ (n : ℕ). turns n (condition_of (context_at (g.C.Calls.arrays c.args.calls.now) (g.C.Calls.call c.args.calls.now) c.args.body.now) (scope_in c.args.body.now c.args.locals.now c.args.outer) (test_in (stmt_of c.args.s.now))) (turn_of (context_at (g.C.Calls.arrays c.args.calls.now) (g.C.Calls.call c.args.calls.now) c.args.body.now) (point_in c.args.body.now c.args.locals.now c.args.outer false loops) (stmt_of c.args.s.now))) up) (c.loop-left.invariant.leads loops) in
     exit_acts c.from_residual.result c.from_residual.ensures.1 (turn_halted (context_at (g.C.Calls.arrays c.args.calls.now) (g.C.Calls.call c.args.calls.now) c.args.body.now) (g.met.C.Calls.adds c.args.calls.now) (c.loop-left.left - 1) (condition_of (context_at (g.C.Calls.arrays c.args.calls.now) (g.C.Calls.call c.args.calls.now) c.args.body.now) (scope_in c.args.body.now c.args.locals.now c.args.outer) (test_in (stmt_of c.args.s.now))) (turn_of (context_at (g.C.Calls.arrays c.args.calls.now) (g.C.Calls.call c.args.calls.now) c.args.body.now) (point_in c.args.body.now c.args.locals.now c.args.outer false loops) (stmt_of c.args.s.now)) (adds_condition (context_at (g.C.Calls.arrays c.args.calls.now) (g.C.Calls.call c.args.calls.now) c.args.body.now) (g.met.C.Calls.adds c.args.calls.now) (scope_in c.args.body.now c.args.locals.now c.args.outer) (test_in (stmt_of c.args.s.now))) (adds_turn (context_at (g.C.Calls.arrays c.args.calls.now) (g.C.Calls.call c.args.calls.now) c.args.body.now) (g.met.C.Calls.adds c.args.calls.now) (point_in c.args.body.now c.args.locals.now c.args.outer false loops) (stmt_of c.args.s.now)) so_far (same_effect (ap (λ (bs : List Binding). turn_of (context_at (g.C.Calls.arrays c.args.calls.now) (g.C.Calls.call c.args.calls.now) c.args.body.now) (record { scope = scope_at c.args.body.now.file bs c.args.outer; shares = false; loops = loops }) (stmt_of c.args.s.now)) c.loop-left.invariant.same) (c.in_err-flow.ensures.acts loops)))
 
 pub run_turns-returns-then-leaves_loop-clause-acts : goal.run_turns-returns-then-leaves_loop-clause-acts
 run_turns-returns-then-leaves_loop-clause-acts g t c loops =
     let up : c.loop-left.left ≡ suc (c.loop-left.left - 1) = omega (arith, c.loop-left-test.true) in
-    let so_far = subst (λ (n : ℕ). Leads (g.C.Calls.arrays c.args.calls.now) _ _ _ _ _ (turns n (condition_of (context_at (g.C.Calls.arrays c.args.calls.now) (g.C.Calls.call c.args.calls.now) c.args.body.now) (scope_in c.args.body.now c.args.locals.now c.args.outer) (test_in (stmt_of c.args.s.now))) (turn_of (context_at (g.C.Calls.arrays c.args.calls.now) (g.C.Calls.call c.args.calls.now) c.args.body.now) (point_in c.args.body.now c.args.locals.now c.args.outer false loops) (stmt_of c.args.s.now)))) up (c.loop-left.invariant.leads loops) in
+    let so_far = same_rest (ap (λ (n : ℕ). turns n (condition_of (context_at (g.C.Calls.arrays c.args.calls.now) (g.C.Calls.call c.args.calls.now) c.args.body.now) (scope_in c.args.body.now c.args.locals.now c.args.outer) (test_in (stmt_of c.args.s.now))) (turn_of (context_at (g.C.Calls.arrays c.args.calls.now) (g.C.Calls.call c.args.calls.now) c.args.body.now) (point_in c.args.body.now c.args.locals.now c.args.outer false loops) (stmt_of c.args.s.now))) up) (c.loop-left.invariant.leads loops) in
     same_flow (sym c.behind_loop.ensures) (turn_left (context_at (g.C.Calls.arrays c.args.calls.now) (g.C.Calls.call c.args.calls.now) c.args.body.now) (g.met.C.Calls.adds c.args.calls.now) (c.loop-left.left - 1) (condition_of (context_at (g.C.Calls.arrays c.args.calls.now) (g.C.Calls.call c.args.calls.now) c.args.body.now) (scope_in c.args.body.now c.args.locals.now c.args.outer) (test_in (stmt_of c.args.s.now))) (turn_of (context_at (g.C.Calls.arrays c.args.calls.now) (g.C.Calls.call c.args.calls.now) c.args.body.now) (point_in c.args.body.now c.args.locals.now c.args.outer false loops) (stmt_of c.args.s.now)) (adds_condition (context_at (g.C.Calls.arrays c.args.calls.now) (g.C.Calls.call c.args.calls.now) c.args.body.now) (g.met.C.Calls.adds c.args.calls.now) (scope_in c.args.body.now c.args.locals.now c.args.outer) (test_in (stmt_of c.args.s.now))) (adds_turn (context_at (g.C.Calls.arrays c.args.calls.now) (g.C.Calls.call c.args.calls.now) c.args.body.now) (g.met.C.Calls.adds c.args.calls.now) (point_in c.args.body.now c.args.locals.now c.args.outer false loops) (stmt_of c.args.s.now)) so_far c.in_ok-flow.flow (same_effect (ap (λ (bs : List Binding). turn_of (context_at (g.C.Calls.arrays c.args.calls.now) (g.C.Calls.call c.args.calls.now) c.args.body.now) (record { scope = scope_at c.args.body.now.file bs c.args.outer; shares = false; loops = loops }) (stmt_of c.args.s.now)) c.loop-left.invariant.same) (c.in_ok-flow.ensures.acts loops)) (sym c.if-leaves_loop.ensures))
 
 pub run_turns-returns-in_err-test-clause-acts : goal.run_turns-returns-in_err-test-clause-acts
 run_turns-returns-in_err-test-clause-acts g t c loops =
     let up : c.loop-left.left ≡ suc (c.loop-left.left - 1) = omega (arith, c.loop-left-test.true) in
-    let so_far = subst (λ (n : ℕ). Leads (g.C.Calls.arrays c.args.calls.now) _ _ _ _ _ (turns n (condition_of (context_at (g.C.Calls.arrays c.args.calls.now) (g.C.Calls.call c.args.calls.now) c.args.body.now) (scope_in c.args.body.now c.args.locals.now c.args.outer) (test_in (stmt_of c.args.s.now))) (turn_of (context_at (g.C.Calls.arrays c.args.calls.now) (g.C.Calls.call c.args.calls.now) c.args.body.now) (point_in c.args.body.now c.args.locals.now c.args.outer false loops) (stmt_of c.args.s.now)))) up (c.loop-left.invariant.leads loops) in
+    let so_far = same_rest (ap (λ (n : ℕ). turns n (condition_of (context_at (g.C.Calls.arrays c.args.calls.now) (g.C.Calls.call c.args.calls.now) c.args.body.now) (scope_in c.args.body.now c.args.locals.now c.args.outer) (test_in (stmt_of c.args.s.now))) (turn_of (context_at (g.C.Calls.arrays c.args.calls.now) (g.C.Calls.call c.args.calls.now) c.args.body.now) (point_in c.args.body.now c.args.locals.now c.args.outer false loops) (stmt_of c.args.s.now))) up) (c.loop-left.invariant.leads loops) in
     exit_acts c.from_residual-in_err-test.result c.from_residual-in_err-test.ensures.1 (test_halted (context_at (g.C.Calls.arrays c.args.calls.now) (g.C.Calls.call c.args.calls.now) c.args.body.now) (g.met.C.Calls.adds c.args.calls.now) (c.loop-left.left - 1) (condition_of (context_at (g.C.Calls.arrays c.args.calls.now) (g.C.Calls.call c.args.calls.now) c.args.body.now) (scope_in c.args.body.now c.args.locals.now c.args.outer) (test_in (stmt_of c.args.s.now))) (turn_of (context_at (g.C.Calls.arrays c.args.calls.now) (g.C.Calls.call c.args.calls.now) c.args.body.now) (point_in c.args.body.now c.args.locals.now c.args.outer false loops) (stmt_of c.args.s.now)) (adds_condition (context_at (g.C.Calls.arrays c.args.calls.now) (g.C.Calls.call c.args.calls.now) c.args.body.now) (g.met.C.Calls.adds c.args.calls.now) (scope_in c.args.body.now c.args.locals.now c.args.outer) (test_in (stmt_of c.args.s.now))) (adds_turn (context_at (g.C.Calls.arrays c.args.calls.now) (g.C.Calls.call c.args.calls.now) c.args.body.now) (g.met.C.Calls.adds c.args.calls.now) (point_in c.args.body.now c.args.locals.now c.args.outer false loops) (stmt_of c.args.s.now)) so_far c.in_ok-flow.flow (same_effect (ap (λ (bs : List Binding). turn_of (context_at (g.C.Calls.arrays c.args.calls.now) (g.C.Calls.call c.args.calls.now) c.args.body.now) (record { scope = scope_at c.args.body.now.file bs c.args.outer; shares = false; loops = loops }) (stmt_of c.args.s.now)) c.loop-left.invariant.same) (c.in_ok-flow.ensures.acts loops)) (sym c.if-leaves_loop.ensures) (same_test (ap (λ (bs : List Binding). condition_of (context_at (g.C.Calls.arrays c.args.calls.now) (g.C.Calls.call c.args.calls.now) c.args.body.now) (scope_at c.args.body.now.file bs c.args.outer) (test_in (stmt_of c.args.s.now))) (c.in_ok-flow.ensures.same ∙ c.loop-left.invariant.same)) c.in_err-test.ensures.decides))
 
 pub run_turns-returns-clause-acts : goal.run_turns-returns-clause-acts
 run_turns-returns-clause-acts g t c loops =
     let none : c.loop-left.left ≡ 0 = omega (arith, c.loop-left-test.false) in
-    turns_over _ (condition_of (context_at (g.C.Calls.arrays c.args.calls.now) (g.C.Calls.call c.args.calls.now) c.args.body.now) (scope_in c.args.body.now c.args.locals.now c.args.outer) (test_in (stmt_of c.args.s.now))) (turn_of (context_at (g.C.Calls.arrays c.args.calls.now) (g.C.Calls.call c.args.calls.now) c.args.body.now) (point_in c.args.body.now c.args.locals.now c.args.outer false loops) (stmt_of c.args.s.now)) (subst (λ (n : ℕ). Leads (g.C.Calls.arrays c.args.calls.now) _ _ _ _ _ (turns n (condition_of (context_at (g.C.Calls.arrays c.args.calls.now) (g.C.Calls.call c.args.calls.now) c.args.body.now) (scope_in c.args.body.now c.args.locals.now c.args.outer) (test_in (stmt_of c.args.s.now))) (turn_of (context_at (g.C.Calls.arrays c.args.calls.now) (g.C.Calls.call c.args.calls.now) c.args.body.now) (point_in c.args.body.now c.args.locals.now c.args.outer false loops) (stmt_of c.args.s.now)))) none (c.loop-left.invariant.leads loops))
+    turns_over (context_at (g.C.Calls.arrays c.args.calls.now) (g.C.Calls.call c.args.calls.now) c.args.body.now) (g.met.C.Calls.adds c.args.calls.now) _ (condition_of (context_at (g.C.Calls.arrays c.args.calls.now) (g.C.Calls.call c.args.calls.now) c.args.body.now) (scope_in c.args.body.now c.args.locals.now c.args.outer) (test_in (stmt_of c.args.s.now))) (turn_of (context_at (g.C.Calls.arrays c.args.calls.now) (g.C.Calls.call c.args.calls.now) c.args.body.now) (point_in c.args.body.now c.args.locals.now c.args.outer false loops) (stmt_of c.args.s.now)) (same_rest (ap (λ (n : ℕ). turns n (condition_of (context_at (g.C.Calls.arrays c.args.calls.now) (g.C.Calls.call c.args.calls.now) c.args.body.now) (scope_in c.args.body.now c.args.locals.now c.args.outer) (test_in (stmt_of c.args.s.now))) (turn_of (context_at (g.C.Calls.arrays c.args.calls.now) (g.C.Calls.call c.args.calls.now) c.args.body.now) (point_in c.args.body.now c.args.locals.now c.args.outer false loops) (stmt_of c.args.s.now))) none) (c.loop-left.invariant.leads loops))
 
 pub run_all-returns-in_err-flow-clause-acts : goal.run_all-returns-in_err-flow-clause-acts
 run_all-returns-in_err-flow-clause-acts g t c loops =
@@ -238,7 +237,7 @@ run_turns-loop-left-preserved g t c = record {
   same = c.in_ok-flow.ensures.same ∙ c.loop-left.invariant.same;
   leads = λ loops.
     let up : c.loop-left.left ≡ suc (c.loop-left.left - 1) = omega (arith, c.loop-left-test.true) in
-    let so_far = subst (λ (n : ℕ). Leads (g.C.Calls.arrays c.args.calls.now) _ _ _ _ _ (turns n (condition_of (context_at (g.C.Calls.arrays c.args.calls.now) (g.C.Calls.call c.args.calls.now) c.args.body.now) (scope_in c.args.body.now c.args.locals.now c.args.outer) (test_in (stmt_of c.args.s.now))) (turn_of (context_at (g.C.Calls.arrays c.args.calls.now) (g.C.Calls.call c.args.calls.now) c.args.body.now) (point_in c.args.body.now c.args.locals.now c.args.outer false loops) (stmt_of c.args.s.now)))) up (c.loop-left.invariant.leads loops) in
+    let so_far = same_rest (ap (λ (n : ℕ). turns n (condition_of (context_at (g.C.Calls.arrays c.args.calls.now) (g.C.Calls.call c.args.calls.now) c.args.body.now) (scope_in c.args.body.now c.args.locals.now c.args.outer) (test_in (stmt_of c.args.s.now))) (turn_of (context_at (g.C.Calls.arrays c.args.calls.now) (g.C.Calls.call c.args.calls.now) c.args.body.now) (point_in c.args.body.now c.args.locals.now c.args.outer false loops) (stmt_of c.args.s.now))) up) (c.loop-left.invariant.leads loops) in
       test_on (context_at (g.C.Calls.arrays c.args.calls.now) (g.C.Calls.call c.args.calls.now) c.args.body.now) (g.met.C.Calls.adds c.args.calls.now) (c.loop-left.left - 1) (condition_of (context_at (g.C.Calls.arrays c.args.calls.now) (g.C.Calls.call c.args.calls.now) c.args.body.now) (scope_in c.args.body.now c.args.locals.now c.args.outer) (test_in (stmt_of c.args.s.now))) (turn_of (context_at (g.C.Calls.arrays c.args.calls.now) (g.C.Calls.call c.args.calls.now) c.args.body.now) (point_in c.args.body.now c.args.locals.now c.args.outer false loops) (stmt_of c.args.s.now)) (adds_condition (context_at (g.C.Calls.arrays c.args.calls.now) (g.C.Calls.call c.args.calls.now) c.args.body.now) (g.met.C.Calls.adds c.args.calls.now) (scope_in c.args.body.now c.args.locals.now c.args.outer) (test_in (stmt_of c.args.s.now))) (adds_turn (context_at (g.C.Calls.arrays c.args.calls.now) (g.C.Calls.call c.args.calls.now) c.args.body.now) (g.met.C.Calls.adds c.args.calls.now) (point_in c.args.body.now c.args.locals.now c.args.outer false loops) (stmt_of c.args.s.now)) so_far c.in_ok-flow.flow (same_effect (ap (λ (bs : List Binding). turn_of (context_at (g.C.Calls.arrays c.args.calls.now) (g.C.Calls.call c.args.calls.now) c.args.body.now) (record { scope = scope_at c.args.body.now.file bs c.args.outer; shares = false; loops = loops }) (stmt_of c.args.s.now)) c.loop-left.invariant.same) (c.in_ok-flow.ensures.acts loops)) (sym c.if-leaves_loop.ensures) c.in_ok-test.field-0 (same_test (ap (λ (bs : List Binding). condition_of (context_at (g.C.Calls.arrays c.args.calls.now) (g.C.Calls.call c.args.calls.now) c.args.body.now) (scope_at c.args.body.now.file bs c.args.outer) (test_in (stmt_of c.args.s.now))) (c.in_ok-flow.ensures.same ∙ c.loop-left.invariant.same)) c.in_ok-test.ensures.decides) (search rules);
 }
 
@@ -254,5 +253,5 @@ run_rounds-returns-clause-acts g t c loops = same_effect (sym (goes_on (repeat c
 pub run_turns-returns-then-not-branch-clause-acts : goal.run_turns-returns-then-not-branch-clause-acts
 run_turns-returns-then-not-branch-clause-acts g t c loops =
     let up : c.loop-left.left ≡ suc (c.loop-left.left - 1) = omega (arith, c.loop-left-test.true) in
-    let so_far = subst (λ (n : ℕ). Leads (g.C.Calls.arrays c.args.calls.now) _ _ _ _ _ (turns n (condition_of (context_at (g.C.Calls.arrays c.args.calls.now) (g.C.Calls.call c.args.calls.now) c.args.body.now) (scope_in c.args.body.now c.args.locals.now c.args.outer) (test_in (stmt_of c.args.s.now))) (turn_of (context_at (g.C.Calls.arrays c.args.calls.now) (g.C.Calls.call c.args.calls.now) c.args.body.now) (point_in c.args.body.now c.args.locals.now c.args.outer false loops) (stmt_of c.args.s.now)))) up (c.loop-left.invariant.leads loops) in
+    let so_far = same_rest (ap (λ (n : ℕ). turns n (condition_of (context_at (g.C.Calls.arrays c.args.calls.now) (g.C.Calls.call c.args.calls.now) c.args.body.now) (scope_in c.args.body.now c.args.locals.now c.args.outer) (test_in (stmt_of c.args.s.now))) (turn_of (context_at (g.C.Calls.arrays c.args.calls.now) (g.C.Calls.call c.args.calls.now) c.args.body.now) (point_in c.args.body.now c.args.locals.now c.args.outer false loops) (stmt_of c.args.s.now))) up) (c.loop-left.invariant.leads loops) in
     test_off (context_at (g.C.Calls.arrays c.args.calls.now) (g.C.Calls.call c.args.calls.now) c.args.body.now) (g.met.C.Calls.adds c.args.calls.now) (c.loop-left.left - 1) (condition_of (context_at (g.C.Calls.arrays c.args.calls.now) (g.C.Calls.call c.args.calls.now) c.args.body.now) (scope_in c.args.body.now c.args.locals.now c.args.outer) (test_in (stmt_of c.args.s.now))) (turn_of (context_at (g.C.Calls.arrays c.args.calls.now) (g.C.Calls.call c.args.calls.now) c.args.body.now) (point_in c.args.body.now c.args.locals.now c.args.outer false loops) (stmt_of c.args.s.now)) (adds_condition (context_at (g.C.Calls.arrays c.args.calls.now) (g.C.Calls.call c.args.calls.now) c.args.body.now) (g.met.C.Calls.adds c.args.calls.now) (scope_in c.args.body.now c.args.locals.now c.args.outer) (test_in (stmt_of c.args.s.now))) (adds_turn (context_at (g.C.Calls.arrays c.args.calls.now) (g.C.Calls.call c.args.calls.now) c.args.body.now) (g.met.C.Calls.adds c.args.calls.now) (point_in c.args.body.now c.args.locals.now c.args.outer false loops) (stmt_of c.args.s.now)) so_far c.in_ok-flow.flow (same_effect (ap (λ (bs : List Binding). turn_of (context_at (g.C.Calls.arrays c.args.calls.now) (g.C.Calls.call c.args.calls.now) c.args.body.now) (record { scope = scope_at c.args.body.now.file bs c.args.outer; shares = false; loops = loops }) (stmt_of c.args.s.now)) c.loop-left.invariant.same) (c.in_ok-flow.ensures.acts loops)) (sym c.if-leaves_loop.ensures) c.in_ok-test.field-0 (same_test (ap (λ (bs : List Binding). condition_of (context_at (g.C.Calls.arrays c.args.calls.now) (g.C.Calls.call c.args.calls.now) c.args.body.now) (scope_at c.args.body.now.file bs c.args.outer) (test_in (stmt_of c.args.s.now))) (c.in_ok-flow.ensures.same ∙ c.loop-left.invariant.same)) c.in_ok-test.ensures.decides) (search rules)
