@@ -137,6 +137,7 @@ fn run_rounds<O: Sink, C: Calls<O>>(
 ) -> Result<Flow, Halt>
     requires words { HaveWords cells.old.rows.items }
     requires held { AreHeld locals.old.values.items }
+    requires sound { IsSound flow }
     ensures words { HaveWords cells.new.rows.items }
     ensures held { OnOk result (AreHeld locals.new.values.items) }
     ensures sound { IfOk result IsSound }
