@@ -1,6 +1,6 @@
 -- What has come, and what a feed answers at its end.
-use Rattle.std.proofs.Common.{◌≡◌, ℕ, zero, suc, ◌<◌, append-nil, Bool, true, false, List, [], ◌∷◌, ◌++◌, Option, Some, Ok, Err, refl, sym, ap, ◌∙◌, subst, arith}
-use Rattle.std.specs.Prelude.{slice_index}
+use Rattle.std.proofs.Common.{◌≡◌, ℕ, zero, suc, ◌<◌, append-nil, Bool, true, false, List, [], ◌∷◌, ◌++◌, Option, Some, Result, Ok, Err, refl, sym, ap, ◌∙◌, subst, arith}
+use Rattle.std.specs.Prelude.{IfOk, slice_index}
 use Rattle.std.proofs.lemmas.Bool.{false≢true}
 use Rattle.vk_format.specs.Bytes.{IsBytes}
 use Rattle.vk_format.specs.declared.rules.ObjectFault.{ObjectFault}
@@ -14,11 +14,14 @@ use Rattle.vk_pieces.specs.Fields.{IsField}
 use Rattle.vk_pieces.specs.declared.pieces.Pieces.{Pieces}
 use Rattle.vk_pieces.specs.Standing.{IsEnded, IsTold, Stands as StandFor, fed}
 use Rattle.vk_object_format.specs.declared.rows.RawObject.{RawObject}
-use Rattle.vk_object_format.specs.Object.{object_faults, object_table}
+use Rattle.vk_object_format.specs.Object.{object_bytes, object_faults, object_table}
 use Rattle.vk_object_format.proofs.Inverse.{object_law}
+use Rattle.vk_object.specs.declared.object.Object.{Object}
+use Rattle.vk_object_write.specs.Lists.{object_lists}
+use Rattle.vk_object_laws.proofs.Again.{bytes_again}
 use Rattle.vk_object_laws.proofs.Ends.{tables_object}
 use Rattle.vk_object_read.specs.declared.object.ObjectFields.{ObjectFields}
-use Rattle.vk_object_codec.specs.Objects.{are_valid}
+use Rattle.vk_object_codec.specs.Objects.{StandsFor, are_valid}
 use Rattle.vk_object_codec.specs.Reading.{IsRead}
 use Rattle.vk_object_codec.specs.Rows.{rows_format, rows_left}
 use Rattle.vk_object_codec.specs.Inner.Came.{Came}
@@ -84,3 +87,13 @@ judge_told bytes e h =
 pub read_told : (e : ObjectFail) (bytes : List ℕ) → IsTold {T = Unit {0}} (Err e) (advance rows_format 0 bytes) → IsRead (Err e) bytes
 read_told (fails.Fault e) bytes h = judge_told bytes e h
 read_told fails.Memory bytes h = tt
+
+-- ---- what is read is written again
+
+spelled_by : (tables : RawObject) (object : Object) (bytes : List ℕ) → IsBytes bytes → judge rows_format 0 bytes ≡ Ok tables → StandsFor tables object → bytes ≡ object_bytes (object_lists object)
+unfolding StandsFor rows_format
+spelled_by tables object bytes are e same = bytes_again bytes tables are e ∙ ap object_bytes same
+
+pub spelled : (r : Result Object ObjectFail) (bytes : List ℕ) → IsBytes bytes → IsRead r bytes → IfOk r (λ object. bytes ≡ object_bytes (object_lists object))
+spelled (Ok object) bytes are h = spelled_by h.0 object bytes are h.1 h.2
+spelled (Err e) bytes are h = tt

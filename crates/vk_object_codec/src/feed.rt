@@ -26,7 +26,7 @@ pub struct ObjectFeed {
 }
 
 // Each byte of a piece is a number below 256: reading them shows it.
-fn know_bytes(piece: &[u8])
+pub(crate) fn know_bytes(piece: &[u8])
     ensures { IsBytes piece.now }
 {
     for byte in piece {

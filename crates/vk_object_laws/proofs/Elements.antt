@@ -1,5 +1,5 @@
 -- Elements that are read are canonical for their type.
-use Rattle.std.proofs.Common.{◌≡◌, ℕ, suc, ◌+◌, ◌*◌, ◌-◌, ◌%◌, ◌^◌, ◌<◌, ◌≤◌, Bool, true, false, ◌&&◌, cond, ltb, List, [], ◌∷◌, ℤ, pos, negsuc, neg_ℤ, ◌≤ℤ◌, refl, subst, arith}
+use Rattle.std.proofs.Common.{◌≡◌, ℕ, suc, ◌+◌, ◌*◌, ◌-◌, ◌%◌, ◌^◌, ◌<◌, ◌≤◌, Bool, true, false, ◌&&◌, cond, ltb, List, [], ℤ, pos, negsuc, neg_ℤ, ◌≤ℤ◌, refl, subst, arith}
 use Rattle.std.specs.Prelude.{int_le}
 use Rattle.std.specs.Int.{cast_signed, w64}
 use Rattle.std.specs.List.{list_all}
@@ -12,7 +12,7 @@ use Rattle.vk_kinds.specs.Sizes.{bytes_of}
 use Rattle.vk_code.specs.Valid.{is_canonical}
 use Rattle.vk_object.specs.Texts.{is_word_of}
 use Rattle.vk_format.specs.Codec.{FitAfter}
-use Rattle.vk_code_format.specs.Fields.{element, extended, word_of}
+use Rattle.vk_code_format.specs.Fields.{element, extended}
 use Rattle.vk_object_format.specs.declared.rows.RawObject.{RawObject}
 use Rattle.vk_object_laws.proofs.Lists.{all_fit_here, and_true}
 
