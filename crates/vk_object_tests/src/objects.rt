@@ -16,13 +16,18 @@ pub fn nothing(alloc: Global) -> Object {
     }
 }
 
+fn is_text(symbol: &Symbol, text: &[u8]) -> bool {
+    symbol.text.as_slice() == text
+}
+
 fn are_symbols(symbols: &[Symbol]) -> bool {
-    let texts = [b"f", b"g", b"h", b"t", b"u", b"x"];
-    let mut same = symbols.len() == texts.len();
-    for (symbol, text) in symbols.iter().zip(texts.iter()) {
-        same = same && symbol.text.as_slice() == text.as_slice();
+    match symbols {
+        [f, g, h, t, u, x] => {
+            let functions = is_text(f, b"f") && is_text(g, b"g") && is_text(h, b"h");
+            functions && is_text(t, b"t") && is_text(u, b"u") && is_text(x, b"x")
+        }
+        _ => false,
     }
-    same
 }
 
 fn is_type(row: &DataRow, ty: Ty, flags: (bool, bool), length: u32) -> bool {

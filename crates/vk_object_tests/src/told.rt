@@ -17,9 +17,9 @@ fn fed(feed: &mut ObjectFeed, bytes: &[u8], size: usize) -> Result<Option<Told>,
     if size == 0 {
         return Ok(None);
     }
-    let mut after = 0;
+    let mut after: usize = 0;
     for piece in bytes.chunks(size) {
-        after = bytes.len().min(after + size);
+        after = bytes.len().min(after.saturating_add(size));
         match feed.feed(piece) {
             Err(ObjectFail::Fault(fault)) => return Ok(Some(Told { fault, after })),
             Err(ObjectFail::Memory) => return Err(Memory),
@@ -51,7 +51,7 @@ fn come(needed: usize, size: usize, all: usize) -> usize {
     if size == 0 {
         return needed;
     }
-    all.min(needed.div_ceil(size) * size)
+    all.min(needed.div_ceil(size).saturating_mul(size))
 }
 
 /// Whether pieces of one byte, of seven and of all bytes tell this fault, and each as soon as so many bytes have come.
