@@ -1,7 +1,6 @@
 // An object that comes in pieces.
 
 ghost use Rattle.std.specs.Prelude.{◌≡◌, ◌≤◌, ◌-◌, length, true, IfOk};
-ghost use Rattle.vk_format.specs.Bytes.{IsBytes};
 ghost use Rattle.vk_object_codec.specs.Rows.{rows_left, rows_width};
 ghost use Rattle.vk_object_codec.specs.Objects.{StandsFor, are_valid};
 ghost use Rattle.vk_object_codec.specs.Inner.Came.{Came};
@@ -23,15 +22,6 @@ pub struct ObjectFeed {
     pub(crate) pieces: Pieces,
     ghost fits: { length pieces.pending.items ≤ rows_width rows.fields - 1 },
     ghost came: { Came (rows_left rows.fields pieces.at) pieces },
-}
-
-// Each byte of a piece is a number below 256: reading them shows it.
-pub(crate) fn know_bytes(piece: &[u8])
-    ensures { IsBytes piece.now }
-{
-    for byte in piece {
-        let _byte = *byte;
-    }
 }
 
 // The object of tables that stand for one.
@@ -69,7 +59,6 @@ impl ObjectFeed {
         ensures same { IfSome self.old.pieces.failed (λ fail. result ≡ Err fail) }
         ensures kept { IfErr result (λ fail. self.new.pieces.failed ≡ Some fail) }
     {
-        know_bytes(piece);
         self.pieces.feed(&mut self.rows, piece)
     }
 

@@ -5,7 +5,7 @@ ghost use Rattle.vk_object_format.specs.Object.{object_bytes};
 ghost use Rattle.vk_object_write.specs.Lists.{object_lists};
 ghost use Rattle.vk_object_codec.specs.Reading.{IsRead};
 
-use crate::feed::{ObjectFeed, know_bytes};
+use crate::feed::ObjectFeed;
 use std::alloc::Global;
 use vk_format::ObjectFail;
 use vk_object::Object;
@@ -16,7 +16,6 @@ pub fn read_object(alloc: Global, bytes: &[u8]) -> Result<Object, ObjectFail>
     ensures read { IsRead result bytes.now }
     ensures spelled { IfOk result (λ object. bytes.now ≡ object_bytes (object_lists object)) }
 {
-    know_bytes(bytes);
     let mut feed = ObjectFeed::new(alloc);
     match feed.feed(bytes) {
         Ok(()) => feed.end(),

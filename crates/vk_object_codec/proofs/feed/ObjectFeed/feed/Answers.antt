@@ -1,3 +1,4 @@
+use Rattle.std.proofs.Common.{arith}
 use Rattle.vk_object_codec.specs.Rows.{rows_format, rows_left}
 use Rattle.vk_object_codec.specs.Standing.{Stands}
 use Rattle.vk_object_codec.proofs.Feeding.{came_more}
@@ -14,5 +15,5 @@ returns-clause-told c = λ bytes h. c.feed.ensures.told rows_format bytes h
 pub invariant_of-self-clause-came : goal.invariant_of-self-clause-came
 invariant_of-self-clause-came c =
     let s = c.args.self.now in
-    came_more (rows_left s.rows.fields s.pieces.at) (rows_left c.feed.new.fields.fields c.feed.new.self.at) s.pieces c.feed.new.self c.args.piece.now c.know_bytes.ensures
+    came_more (rows_left s.rows.fields s.pieces.at) (rows_left c.feed.new.fields.fields c.feed.new.self.at) s.pieces c.feed.new.self c.args.piece.now (λ i. omega (arith, c.type_inv.piece i))
     (c.feed.ensures.fed rows_format) s.came

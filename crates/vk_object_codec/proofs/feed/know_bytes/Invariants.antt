@@ -1,5 +1,0 @@
-use Rattle.std.proofs.Common.{ℕ, ◌<◌, get_or}
-use Rattle.vk_object_codec.proofs.feed.know_bytes.Given as goal
-
-abbrev pub invariant-loop-byte : goal.invariant-loop-byte
-invariant-loop-byte l = (i : ℕ) → i < l.byte-index → get_or l.piece i 0 < 256
