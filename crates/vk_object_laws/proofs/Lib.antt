@@ -3,3 +3,6 @@ pub mod Elements
 pub mod Rows
 pub mod Ends
 pub mod Again
+pub mod Fitting
+pub mod FitParameters
+pub mod FitCodes
