@@ -22,10 +22,10 @@ int_le-true x y h = grind (arith, ints)
 within : (low high z : ℤ) → low ≤ℤ z → z ≤ℤ high → (int_le low z && int_le z high) ≡ true
 within low high z l h = and_true (int_le low z) (int_le z high) (int_le-true low z l) (int_le-true z high h)
 
-small_number : (n : ℕ) → n < 2 ^ 63 → cast_signed w64 n ≡ pos n
+pub small_number : (n : ℕ) → n < 2 ^ 63 → cast_signed w64 n ≡ pos n
 small_number n h = rw (lt-ltb _ _ h) refl
 
-great_number : (n : ℕ) → 2 ^ 63 ≤ n → cast_signed w64 n ≡ negsuc (2 ^ 64 - suc n)
+pub great_number : (n : ℕ) → 2 ^ 63 ≤ n → cast_signed w64 n ≡ negsuc (2 ^ 64 - suc n)
 great_number n h = rw (le-ltb _ _ h) refl
 
 -- a number in two's complement of 1 + k bits, where `half` is 2 to the k

@@ -229,3 +229,107 @@ module _ (o : ObjectLists) (few : length o.functions < 2 ^ 32) where
     own_fit captures count range =
         let fitting = front_fit b head_good (1 + captures) (params_same ∙ count) range slots_good in
         (((fitting, (((omega arith, refl), (instrs_fit b.instrs (instrs_few b head_good) (and_right (list_all call_in_range b.slots) (list_all instr_in_range b.instrs) range), refl)), refl)), refl), refl)
+
+  body_fit : (c : Routine) (registers : List ℕ) (captures : ℕ) (b : LoopBody) → is_body env c registers b ≡ true → length registers ≡ 1 + captures → body_in_range b ≡ true
+      → (body {R = RawObject} (in_object (length o.functions) captures) captures).fits (body_row b)
+  body_fit c registers captures (own b) h count range = own_fit c registers b h captures count range
+  body_fit c registers captures (numbered n) h count range = absurd (false≢true h)
+
+  body_same : (c : Routine) (registers : List ℕ) (b : LoopBody) → is_body env c registers b ≡ true → body_in_range b ≡ true → body_of (body_row b) ≡ b
+  body_same c registers (own b) h range = ap own (routine_same b 0 (no_loops c registers b h) range)
+  body_same c registers (numbered n) h range = refl
+
+  guard_fit : (c : Routine) (g : Guard) → length c.regs ≤ 8192 → is_good_guard c g ≡ true → (guard {R = RawObject}).fits g
+  guard_fit c g regs h =
+      let first = reg_within is_pointer refl c.regs g.first (and_left (is_pointer (reg_type c.regs g.first)) (is_pointer (reg_type c.regs g.second)) h) in
+      let second = reg_within is_pointer refl c.regs g.second (and_right (is_pointer (reg_type c.regs g.first)) (is_pointer (reg_type c.regs g.second)) h) in
+      (omega (arith, first, regs), (omega (arith, second, regs), refl))
+
+  module _ (c : Routine) (regs : length c.regs ≤ 8192) (l : SimdSite) (good : is_good_loop env c l ≡ true) where
+    body_good : is_body env c (body_regs l) l.body ≡ true
+    body_good = and_right (has_good_bounds c l && has_good_captures c l) (is_body env c (body_regs l) l.body) good
+
+    bounds : has_good_bounds c l ≡ true
+    bounds = and_left (has_good_bounds c l) (has_good_captures c l) (and_left (has_good_bounds c l && has_good_captures c l) (is_body env c (body_regs l) l.body) good)
+
+    captured : has_good_captures c l ≡ true
+    captured = and_right (has_good_bounds c l) (has_good_captures c l) (and_left (has_good_bounds c l && has_good_captures c l) (is_body env c (body_regs l) l.body) good)
+
+    low_promoted : is_promoted (reg_type c.regs l.low) ≡ true
+    low_promoted = and_right (not c.lane_code && is_good_simdlen l.simdlen) (is_promoted (reg_type c.regs l.low)) (and_left _ (reg_type c.regs l.high == reg_type c.regs l.low) bounds)
+
+    high_same : reg_type c.regs l.high ≡ reg_type c.regs l.low
+    high_same = eqb-true (reg_type c.regs l.high) (reg_type c.regs l.low) (and_right _ (reg_type c.regs l.high == reg_type c.regs l.low) bounds)
+
+    lanes_good : is_good_simdlen l.simdlen ≡ true
+    lanes_good = and_right (not c.lane_code) (is_good_simdlen l.simdlen) (and_left _ (is_promoted (reg_type c.regs l.low)) (and_left _ (reg_type c.regs l.high == reg_type c.regs l.low) bounds))
+
+    pub loop_fit : (params : ℕ) → loop_in_range l ≡ true → (loop_site {R = RawObject} (in_object (length o.functions) params)).fits (loop_row l)
+    loop_fit params range =
+        let low = reg_within is_promoted refl c.regs l.low low_promoted in
+        let high = reg_within is_promoted refl c.regs l.high (ap is_promoted high_same ∙ low_promoted) in
+        let c3 = and_left _ (list_all (is_good_guard c) l.guards) captured in
+        let c2 = and_left _ (list_all (λ r. nat_lt r (length c.regs)) l.captures) c3 in
+        let captures : length l.captures ≤ 65535 = le_of (length l.captures) 65535 (and_left (nat_le (length l.captures) 65535) (nat_le (length l.guards) 65535) c2) in
+        let guards : length l.guards ≤ 65535 = le_of (length l.guards) 65535 (and_right (nat_le (length l.captures) 65535) (nat_le (length l.guards) 65535) c2) in
+        (simdlen_fits l.simdlen lanes_good,
+        (omega (arith, low, regs),
+        (omega (arith, high, regs),
+        (list_fits (number 2) (number 2) l.captures (omega (arith, captures))
+        (fit_here (λ (b : List ℕ). number {R = RawObject} 2) (λ r. nat_lt r (length c.regs)) (λ b r h. capture r h) [] l.captures (and_right _ (list_all (λ r. nat_lt r (length c.regs)) l.captures) c3)),
+        (list_fits (number 2) guard l.guards (omega (arith, guards))
+        (fit_here (λ (b : List Guard). guard {R = RawObject}) (is_good_guard c) (λ b g. guard_fit c g regs) [] l.guards (and_right _ (list_all (is_good_guard c) l.guards) captured)),
+        (body_fit c (body_regs l) (length l.captures) l.body body_good (omega arith) range,
+        refl))))))
+      where
+        capture : (r : ℕ) → nat_lt r (length c.regs) ≡ true → r < 256 ^ 2
+        capture r h = let lt : r < length c.regs = lt_of r (length c.regs) h in omega (arith, lt, regs)
+
+    pub loop_same : loop_in_range l ≡ true → site_of (loop_row l) ≡ l
+    loop_same range =
+        ap (λ b. record { simdlen = l.simdlen; low = l.low; high = l.high; captures = l.captures; guards = l.guards; body = b }) (body_same c (body_regs l) l.body body_good range)
+
+  -- ---- whole codes
+
+  module _ (c : Listing) (good : all_good (verdicts env c) ≡ true) (range : code_in_range c ≡ true) where
+    behind_head : all_good (map (is_good_slot env c.routine) c.routine.slots ++ (map (is_good_loop env c.routine) c.loops ++ body_verdicts env c.routine)) ≡ true
+    behind_head = and_right (is_good_head c.routine) _ good
+
+    main_head : is_good_head c.routine ≡ true
+    main_head = and_left (is_good_head c.routine) (all_good (map (is_good_slot env c.routine) c.routine.slots ++ (map (is_good_loop env c.routine) c.loops ++ body_verdicts env c.routine))) good
+
+    main_slots : all_good (map (is_good_slot env c.routine) c.routine.slots) ≡ true
+    main_slots = all_front (map (is_good_slot env c.routine) c.routine.slots) _ behind_head
+
+    main_loops : list_all (is_good_loop env c.routine) c.loops ≡ true
+    main_loops = all_map (is_good_loop env c.routine) c.loops (all_front (map (is_good_loop env c.routine) c.loops) (body_verdicts env c.routine) (all_back (map (is_good_slot env c.routine) c.routine.slots) _ behind_head))
+
+    routine_range : routine_in_range c.routine ≡ true
+    routine_range = and_left (routine_in_range c.routine) (list_all loop_in_range c.loops) (and_left _ (c.routine.loops == length c.loops) range)
+
+    loops_range : list_all loop_in_range c.loops ≡ true
+    loops_range = and_right (routine_in_range c.routine) (list_all loop_in_range c.loops) (and_left _ (c.routine.loops == length c.loops) range)
+
+    loops_count : c.routine.loops ≡ length c.loops
+    loops_count = eqb-true c.routine.loops (length c.loops) (and_right _ (c.routine.loops == length c.loops) range)
+
+    pub code_fit : (params : ℕ) → c.routine.params ≡ params → (code {R = RawObject} (in_object (length o.functions) params)).fits (code_row c)
+    code_fit params same =
+        let regs = regs_few c.routine main_head in
+        let few = loops_few c.routine main_head in
+        (front_fit c.routine main_head params same routine_range main_slots,
+        (list_fits (number 2) (loop_site (in_object (length o.functions) params)) (map loop_row c.loops) (omega (arith, few, loops_count, length-map c.loops loop_row))
+        (fit_each (λ b. loop_site {R = RawObject} (in_object (length o.functions) params)) loop_row (λ l. loop_in_range l && is_good_loop env c.routine l)
+        (λ b l h. loop_fit c.routine regs l (and_right (loop_in_range l) (is_good_loop env c.routine l) h) params (and_left (loop_in_range l) (is_good_loop env c.routine l) h))
+        [] c.loops (all_both loop_in_range (is_good_loop env c.routine) c.loops loops_range main_loops)),
+        (instrs_fit c.routine.instrs (instrs_few c.routine main_head) (and_right (list_all call_in_range c.routine.slots) (list_all instr_in_range c.routine.instrs) routine_range),
+        refl)))
+
+    pub code_same : listing_of (code_row c) ≡ c
+    code_same =
+        let regs = regs_few c.routine main_head in
+        ap₂ (λ (r : Routine) (ls : List SimdSite). record { routine = r; loops = ls })
+        (routine_same c.routine (length (map loop_row c.loops)) (loops_count ∙ sym (length-map c.loops loop_row)) routine_range)
+        (again_each site_of loop_row (λ l. loop_in_range l && is_good_loop env c.routine l)
+        (λ l h. loop_same c.routine regs l (and_right (loop_in_range l) (is_good_loop env c.routine l) h) (and_left (loop_in_range l) (is_good_loop env c.routine l) h))
+        c.loops (all_both loop_in_range (is_good_loop env c.routine) c.loops loops_range main_loops))

@@ -6,3 +6,4 @@ pub mod Again
 pub mod Fitting
 pub mod FitParameters
 pub mod FitCodes
+pub mod FitElements
