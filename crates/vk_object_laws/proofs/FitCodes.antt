@@ -1,5 +1,5 @@
 -- The rows of codes fit, and stand for what they were made of.
-use Rattle.std.proofs.Common.{◌≡◌, ℕ, zero, suc, ◌+◌, ◌/◌, ◌%◌, ◌^◌, ◌<◌, ◌≤◌, ◌==◌, Bool, true, false, not, ◌&&◌, ◌||◌, cond, List, [], ◌∷◌, ◌++◌, length, map, take, Option, Some, None, is_none, refl, sym, ap, ap₂, ◌∙◌, subst, arith}
+use Rattle.std.proofs.Common.{◌≡◌, ℕ, zero, suc, ◌+◌, ◌/◌, ◌%◌, ◌^◌, ◌<◌, ◌≤◌, ◌==◌, Bool, true, false, not, ◌&&◌, List, [], ◌∷◌, ◌++◌, length, map, take, refl, sym, ap, ap₂, ◌∙◌, arith}
 use Rattle.std.specs.Prelude.{min, nat_lt, nat_le, slice_get}
 use Rattle.std.specs.List.{list_all}
 use Rattle.std.specs.Int.{byte_at}
@@ -14,21 +14,19 @@ use Rattle.vk_code.specs.declared.code.Shape.TheVariants as shape
 use Rattle.vk_code.specs.declared.code.SlotArg.{SlotArg}
 use Rattle.vk_code.specs.declared.instruction.Instr.{Instr}
 use Rattle.vk_code.specs.Listing.{CallSite, Listing, LoopBody, own, numbered, Routine, SimdSite, reg_type}
-use Rattle.vk_code.specs.Tests.{all_good, holds, pairs}
+use Rattle.vk_code.specs.Tests.{all_good, holds}
 use Rattle.vk_code.specs.Valid.{Environment, body_regs, body_verdicts, has_callee, has_good_args, has_good_bounds, has_good_captures, has_good_counts, has_good_registers, has_params, is_body, is_good_arg, is_good_body, is_good_guard, is_good_head, is_good_loop, is_good_routine, is_good_shape, is_good_simdlen, is_good_slot, is_pointer, is_promoted, is_result, is_type_of, verdicts}
 use Rattle.vk_object.specs.Objects.{ObjectLists, callee_of, names_of}
-use Rattle.vk_format.specs.Codec.{FitAfter, number}
+use Rattle.vk_format.specs.Codec.{number}
 use Rattle.vk_format.proofs.Bytes.{number_again}
-use Rattle.vk_code_format.specs.declared.rows.LoopRow.{LoopRow}
 use Rattle.vk_code_format.specs.declared.rows.BodyRow.TheVariants.{Inline}
-use Rattle.vk_code_format.specs.Codes.{argument, body, code, front, guard, in_object, instr_bytes, instr_of, instruction, instructions, loop_site, object_slot, routine}
+use Rattle.vk_code_format.specs.Codes.{argument, body, code, front, guard, in_object, instr_bytes, instr_of, instruction, instructions, loop_site, object_slot}
 use Rattle.vk_code_format.specs.Fields.{value_type}
-use Rattle.vk_code_format.specs.Parameters.{signed, signed_bits}
 use Rattle.vk_code_format.specs.Values.{arg_of, arg_row, body_of, body_row, call_of, code_row, listing_of, loop_row, routine_of, routine_row, site_of, slot_row}
 use Rattle.vk_object_format.specs.declared.rows.RawObject.{RawObject}
 use Rattle.vk_object_laws.specs.Ranges.{arg_in_range, body_in_range, call_in_range, code_in_range, instr_in_range, loop_in_range, routine_in_range, shape_in_range}
 use Rattle.vk_object_laws.proofs.Lists.{and_true}
-use Rattle.vk_object_laws.proofs.Fitting.{below_fits, fit_each, fit_here, flag_fits, le_of, list_fits, lt_of, passes, register_fits, repeated_fits, simdlen_fits, value_type_fits}
+use Rattle.vk_object_laws.proofs.Fitting.{below_fits, fit_each, fit_here, flag_fits, le_of, list_fits, lt_of, register_fits, repeated_fits, simdlen_fits, value_type_fits}
 use Rattle.vk_object_laws.proofs.FitParameters.{bits_fit, pairs_long, signed_again}
 
 -- ---- lists
@@ -92,12 +90,38 @@ instr_fit i h =
     let h5 = and_left _ (nat_lt i.imm (2 ^ 64)) h in
     let h4 = and_left _ (nat_lt i.a 65536) h5 in
     let h3 = and_left _ (nat_lt i.d 65536) h4 in
-    let h2 = and_left _ (nat_lt i.m 65536) h3 in
-    ((refl,
-    (byte_small 0 i.op, (byte_small 0 i.ty, (byte_small 0 i.m, (byte_small 1 i.m, (byte_small 0 i.d, (byte_small 1 i.d, (byte_small 0 i.a, (byte_small 1 i.a,
-    (byte_small 0 i.imm, (byte_small 1 i.imm, (byte_small 2 i.imm, (byte_small 3 i.imm, (byte_small 4 i.imm, (byte_small 5 i.imm, (byte_small 6 i.imm, (byte_small 7 i.imm, tt))))))))))))))))),
-    instr_again i (lt_of i.op 256 (and_left (nat_lt i.op 256) (nat_lt i.ty 256) h2)) (lt_of i.ty 256 (and_right (nat_lt i.op 256) (nat_lt i.ty 256) h2))
-    (lt_of i.m 65536 (and_right _ (nat_lt i.m 65536) h3)) (lt_of i.d 65536 (and_right _ (nat_lt i.d 65536) h4)) (lt_of i.a 65536 (and_right _ (nat_lt i.a 65536) h5)) (lt_of i.imm (2 ^ 64) (and_right _ (nat_lt i.imm (2 ^ 64)) h)))
+    let h2 = and_left _ (nat_lt i.m 65536) h3 in (
+      (
+        refl,
+        (
+          byte_small 0 i.op,
+          (
+            byte_small 0 i.ty,
+            (
+              byte_small 0 i.m,
+              (
+                byte_small 1 i.m,
+                (
+                  byte_small 0 i.d,
+                  (
+                    byte_small 1 i.d,
+                    (
+                      byte_small 0 i.a,
+                      (
+                        byte_small 1 i.a,
+                        (byte_small 0 i.imm, (byte_small 1 i.imm, (byte_small 2 i.imm, (byte_small 3 i.imm, (byte_small 4 i.imm, (byte_small 5 i.imm, (byte_small 6 i.imm, (byte_small 7 i.imm, tt)))))))),
+                      ),
+                    ),
+                  ),
+                ),
+              ),
+            ),
+          ),
+        ),
+      ),
+      instr_again i (lt_of i.op 256 (and_left (nat_lt i.op 256) (nat_lt i.ty 256) h2)) (lt_of i.ty 256 (and_right (nat_lt i.op 256) (nat_lt i.ty 256) h2))
+          (lt_of i.m 65536 (and_right _ (nat_lt i.m 65536) h3)) (lt_of i.d 65536 (and_right _ (nat_lt i.d 65536) h4)) (lt_of i.a 65536 (and_right _ (nat_lt i.a 65536) h5)) (lt_of i.imm (2 ^ 64) (and_right _ (nat_lt i.imm (2 ^ 64)) h)),
+    )
 
 instrs_fit : (is : List Instr) → length is ≤ 4294967295 → list_all instr_in_range is ≡ true → (instructions {R = RawObject}).fits is
 instrs_fit is few h = list_fits (number 4) instruction is (omega (arith, few)) (fit_here (λ (b : List Instr). instruction {R = RawObject}) instr_in_range (λ b i. instr_fit i) [] is h)
@@ -146,13 +170,22 @@ module _ (o : ObjectLists) (few : length o.functions < 2 ^ 32) where
       let callee : s.function < length (map callee_of o.functions) = holds_within _ (map callee_of o.functions) s.function (and_right (has_good_args c s && is_result (length c.regs) s.result) (has_callee env c s) good) in
       let within : s.function < length o.functions = omega (arith, callee, length-map o.functions callee_of) in
       let count : length s.args ≤ 255 = le_of (length s.args) 255 (and_left (nat_le (length s.args) 255) (list_all (is_good_arg c) s.args) args) in
-      let each = all_both arg_in_range (is_good_arg c) s.args range (and_right (nat_le (length s.args) 255) (list_all (is_good_arg c) s.args) args) in
-      (below_fits (length o.functions) s.function (omega (arith, within, few)) (lt-ltb _ _ within),
-      (omega (arith, count, length-map s.args arg_row),
-      (flag_fits s.always,
-      (register_fits s.result (length c.regs) result regs,
-      (repeated_fits (length (map arg_row s.args)) argument (map arg_row s.args) refl (fit_each (λ b. argument {R = RawObject}) arg_row (λ a. arg_in_range a && is_good_arg c a) (λ b a. arg_fit c a regs) [] s.args each),
-      refl)))))
+      let each = all_both arg_in_range (is_good_arg c) s.args range (and_right (nat_le (length s.args) 255) (list_all (is_good_arg c) s.args) args) in (
+        below_fits (length o.functions) s.function (omega (arith, within, few)) (lt-ltb _ _ within),
+        (
+          omega (arith, count, length-map s.args arg_row),
+          (
+            flag_fits s.always,
+            (
+              register_fits s.result (length c.regs) result regs,
+              (
+                repeated_fits (length (map arg_row s.args)) argument (map arg_row s.args) refl (fit_each (λ b. argument {R = RawObject}) arg_row (λ a. arg_in_range a && is_good_arg c a) (λ b a. arg_fit c a regs) [] s.args each),
+                refl,
+              ),
+            ),
+          ),
+        ),
+      )
 
   -- ---- the front of code
 
@@ -187,15 +220,26 @@ module _ (o : ObjectLists) (few : length o.functions < 2 ^ 32) where
     pub front_fit : (params : ℕ) → c.params ≡ params → routine_in_range c ≡ true → all_good (map (is_good_slot env c) c.slots) ≡ true
         → (front {R = RawObject} (in_object (length o.functions) params)).fits (routine_row c).front
     front_fit params same range slots =
-        let both = all_both call_in_range (is_good_slot env c) c.slots (and_left (list_all call_in_range c.slots) (list_all instr_in_range c.instrs) range) (all_map (is_good_slot env c) c.slots slots) in
-        (flag_fits c.lane_code,
-        (register_fits c.result (length c.regs) (and_right _ (is_result (length c.regs) c.result) registers) regs_few,
-        (same,
-        (list_fits (number 2) value_type c.regs (omega (arith, sizes)) (fit_here (λ (b : List CType). value_type {R = RawObject}) (λ t. nat_lt (ctype_number t) 24) (λ b t. value_type_fits t) [] c.regs typed),
-        (omega (arith, sizes),
-        (list_fits (number 2) (object_slot (length o.functions)) (map slot_row c.slots) (omega (arith, slots_few, length-map c.slots slot_row))
-        (fit_each (λ b. object_slot {R = RawObject} (length o.functions)) slot_row (λ s. call_in_range s && is_good_slot env c s) (λ b s. slot_fit c s regs_few) [] c.slots both),
-        refl))))))
+        let both = all_both call_in_range (is_good_slot env c) c.slots (and_left (list_all call_in_range c.slots) (list_all instr_in_range c.instrs) range) (all_map (is_good_slot env c) c.slots slots) in (
+          flag_fits c.lane_code,
+          (
+            register_fits c.result (length c.regs) (and_right _ (is_result (length c.regs) c.result) registers) regs_few,
+            (
+              same,
+              (
+                list_fits (number 2) value_type c.regs (omega (arith, sizes)) (fit_here (λ (b : List CType). value_type {R = RawObject}) (λ t. nat_lt (ctype_number t) 24) (λ b t. value_type_fits t) [] c.regs typed),
+                (
+                  omega (arith, sizes),
+                  (
+                    list_fits (number 2) (object_slot (length o.functions)) (map slot_row c.slots) (omega (arith, slots_few, length-map c.slots slot_row))
+                        (fit_each (λ b. object_slot {R = RawObject} (length o.functions)) slot_row (λ s. call_in_range s && is_good_slot env c s) (λ b s. slot_fit c s regs_few) [] c.slots both),
+                    refl,
+                  ),
+                ),
+              ),
+            ),
+          ),
+        )
 
   routine_same : (c : Routine) (loops : ℕ) → c.loops ≡ loops → routine_in_range c ≡ true → routine_of (routine_row c) loops ≡ c
   routine_same c loops e range =
@@ -204,7 +248,7 @@ module _ (o : ObjectLists) (few : length o.functions < 2 ^ 32) where
 
   -- ---- loops
 
-  module _ (c : Routine) (registers : List ℕ) (b : Routine) (good : is_good_body env c registers b ≡ true) where
+  module _ (c : Routine) (gets : List ℕ) (b : Routine) (good : is_good_body env c gets b ≡ true) where
     routine_good : is_good_routine env b ≡ true
     routine_good = and_right _ (is_good_routine env b) good
 
@@ -215,29 +259,29 @@ module _ (o : ObjectLists) (few : length o.functions < 2 ^ 32) where
     slots_good = and_right (is_good_head b) (all_good (map (is_good_slot env b) b.slots)) (and_left _ (all_good (body_verdicts env b)) routine_good)
 
     no_loops : b.loops ≡ 0
-    no_loops = eqb-true b.loops 0 (and_right _ (b.loops == 0) (and_left _ (has_params c registers b) (and_left _ (is_good_routine env b) good)))
+    no_loops = eqb-true b.loops 0 (and_right _ (b.loops == 0) (and_left _ (has_params c gets b) (and_left _ (is_good_routine env b) good)))
 
-    params_same : b.params ≡ length registers
+    params_same : b.params ≡ length gets
     params_same =
-        let pairs_good = and_right _ (has_params c registers b) (and_left _ (is_good_routine env b) good) in
-        let long : length (take b.params b.regs) ≡ length registers = pairs_long (is_type_of c) (take b.params b.regs) registers pairs_good in
+        let pairs_good = and_right _ (has_params c gets b) (and_left _ (is_good_routine env b) good) in
+        let long : length (take b.params b.regs) ≡ length gets = pairs_long (is_type_of c) (take b.params b.regs) gets pairs_good in
         let few : b.params ≤ length b.regs = parameters b head_good in
         let taken : length (take b.params b.regs) ≡ min b.params (length b.regs) = length-take b.params b.regs in
         omega (arith, long, taken, few)
 
-    own_fit : (captures : ℕ) → length registers ≡ 1 + captures → routine_in_range b ≡ true → (body {R = RawObject} (in_object (length o.functions) captures) captures).fits (Inline (routine_row b))
+    own_fit : (captures : ℕ) → length gets ≡ 1 + captures → routine_in_range b ≡ true → (body {R = RawObject} (in_object (length o.functions) captures) captures).fits (Inline (routine_row b))
     own_fit captures count range =
         let fitting = front_fit b head_good (1 + captures) (params_same ∙ count) range slots_good in
         (((fitting, (((omega arith, refl), (instrs_fit b.instrs (instrs_few b head_good) (and_right (list_all call_in_range b.slots) (list_all instr_in_range b.instrs) range), refl)), refl)), refl), refl)
 
-  body_fit : (c : Routine) (registers : List ℕ) (captures : ℕ) (b : LoopBody) → is_body env c registers b ≡ true → length registers ≡ 1 + captures → body_in_range b ≡ true
+  body_fit : (c : Routine) (gets : List ℕ) (captures : ℕ) (b : LoopBody) → is_body env c gets b ≡ true → length gets ≡ 1 + captures → body_in_range b ≡ true
       → (body {R = RawObject} (in_object (length o.functions) captures) captures).fits (body_row b)
-  body_fit c registers captures (own b) h count range = own_fit c registers b h captures count range
-  body_fit c registers captures (numbered n) h count range = absurd (false≢true h)
+  body_fit c gets captures (own b) h count range = own_fit c gets b h captures count range
+  body_fit c gets captures (numbered n) h count range = absurd (false≢true h)
 
-  body_same : (c : Routine) (registers : List ℕ) (b : LoopBody) → is_body env c registers b ≡ true → body_in_range b ≡ true → body_of (body_row b) ≡ b
-  body_same c registers (own b) h range = ap own (routine_same b 0 (no_loops c registers b h) range)
-  body_same c registers (numbered n) h range = refl
+  body_same : (c : Routine) (gets : List ℕ) (b : LoopBody) → is_body env c gets b ≡ true → body_in_range b ≡ true → body_of (body_row b) ≡ b
+  body_same c gets (own b) h range = ap own (routine_same b 0 (no_loops c gets b h) range)
+  body_same c gets (numbered n) h range = refl
 
   guard_fit : (c : Routine) (g : Guard) → length c.regs ≤ 8192 → is_good_guard c g ≡ true → (guard {R = RawObject}).fits g
   guard_fit c g regs h =
@@ -271,16 +315,27 @@ module _ (o : ObjectLists) (few : length o.functions < 2 ^ 32) where
         let c3 = and_left _ (list_all (is_good_guard c) l.guards) captured in
         let c2 = and_left _ (list_all (λ r. nat_lt r (length c.regs)) l.captures) c3 in
         let captures : length l.captures ≤ 65535 = le_of (length l.captures) 65535 (and_left (nat_le (length l.captures) 65535) (nat_le (length l.guards) 65535) c2) in
-        let guards : length l.guards ≤ 65535 = le_of (length l.guards) 65535 (and_right (nat_le (length l.captures) 65535) (nat_le (length l.guards) 65535) c2) in
-        (simdlen_fits l.simdlen lanes_good,
-        (omega (arith, low, regs),
-        (omega (arith, high, regs),
-        (list_fits (number 2) (number 2) l.captures (omega (arith, captures))
-        (fit_here (λ (b : List ℕ). number {R = RawObject} 2) (λ r. nat_lt r (length c.regs)) (λ b r h. capture r h) [] l.captures (and_right _ (list_all (λ r. nat_lt r (length c.regs)) l.captures) c3)),
-        (list_fits (number 2) guard l.guards (omega (arith, guards))
-        (fit_here (λ (b : List Guard). guard {R = RawObject}) (is_good_guard c) (λ b g. guard_fit c g regs) [] l.guards (and_right _ (list_all (is_good_guard c) l.guards) captured)),
-        (body_fit c (body_regs l) (length l.captures) l.body body_good (omega arith) range,
-        refl))))))
+        let guards : length l.guards ≤ 65535 = le_of (length l.guards) 65535 (and_right (nat_le (length l.captures) 65535) (nat_le (length l.guards) 65535) c2) in (
+          simdlen_fits l.simdlen lanes_good,
+          (
+            omega (arith, low, regs),
+            (
+              omega (arith, high, regs),
+              (
+                list_fits (number 2) (number 2) l.captures (omega (arith, captures))
+                    (fit_here (λ (b : List ℕ). number {R = RawObject} 2) (λ r. nat_lt r (length c.regs)) (λ b r h. capture r h) [] l.captures (and_right _ (list_all (λ r. nat_lt r (length c.regs)) l.captures) c3)),
+                (
+                  list_fits (number 2) guard l.guards (omega (arith, guards))
+                      (fit_here (λ (b : List Guard). guard {R = RawObject}) (is_good_guard c) (λ b g. guard_fit c g regs) [] l.guards (and_right _ (list_all (is_good_guard c) l.guards) captured)),
+                  (
+                    body_fit c (body_regs l) (length l.captures) l.body body_good (omega arith) range,
+                    refl,
+                  ),
+                ),
+              ),
+            ),
+          ),
+        )
       where
         capture : (r : ℕ) → nat_lt r (length c.regs) ≡ true → r < 256 ^ 2
         capture r h = let lt : r < length c.regs = lt_of r (length c.regs) h in omega (arith, lt, regs)
@@ -316,14 +371,19 @@ module _ (o : ObjectLists) (few : length o.functions < 2 ^ 32) where
     pub code_fit : (params : ℕ) → c.routine.params ≡ params → (code {R = RawObject} (in_object (length o.functions) params)).fits (code_row c)
     code_fit params same =
         let regs = regs_few c.routine main_head in
-        let few = loops_few c.routine main_head in
-        (front_fit c.routine main_head params same routine_range main_slots,
-        (list_fits (number 2) (loop_site (in_object (length o.functions) params)) (map loop_row c.loops) (omega (arith, few, loops_count, length-map c.loops loop_row))
-        (fit_each (λ b. loop_site {R = RawObject} (in_object (length o.functions) params)) loop_row (λ l. loop_in_range l && is_good_loop env c.routine l)
-        (λ b l h. loop_fit c.routine regs l (and_right (loop_in_range l) (is_good_loop env c.routine l) h) params (and_left (loop_in_range l) (is_good_loop env c.routine l) h))
-        [] c.loops (all_both loop_in_range (is_good_loop env c.routine) c.loops loops_range main_loops)),
-        (instrs_fit c.routine.instrs (instrs_few c.routine main_head) (and_right (list_all call_in_range c.routine.slots) (list_all instr_in_range c.routine.instrs) routine_range),
-        refl)))
+        let few = loops_few c.routine main_head in (
+          front_fit c.routine main_head params same routine_range main_slots,
+          (
+            list_fits (number 2) (loop_site (in_object (length o.functions) params)) (map loop_row c.loops) (omega (arith, few, loops_count, length-map c.loops loop_row))
+                (fit_each (λ b. loop_site {R = RawObject} (in_object (length o.functions) params)) loop_row (λ l. loop_in_range l && is_good_loop env c.routine l)
+                (λ b l h. loop_fit c.routine regs l (and_right (loop_in_range l) (is_good_loop env c.routine l) h) params (and_left (loop_in_range l) (is_good_loop env c.routine l) h))
+                [] c.loops (all_both loop_in_range (is_good_loop env c.routine) c.loops loops_range main_loops)),
+            (
+              instrs_fit c.routine.instrs (instrs_few c.routine main_head) (and_right (list_all call_in_range c.routine.slots) (list_all instr_in_range c.routine.instrs) routine_range),
+              refl,
+            ),
+          ),
+        )
 
     pub code_same : listing_of (code_row c) ≡ c
     code_same =

@@ -1,6 +1,6 @@
 -- Elements that are canonical for their type fit.
-use Rattle.std.proofs.Common.{◌≡◌, ℕ, suc, ◌+◌, ◌*◌, ◌-◌, ◌%◌, ◌^◌, ◌<◌, ◌≤◌, Bool, true, false, ◌&&◌, cond, ltb, List, [], ℤ, pos, negsuc, neg_ℤ, ◌≤ℤ◌, refl, sym, ap, ◌∙◌, subst, arith}
-use Rattle.std.specs.Prelude.{int_le, nat_lt}
+use Rattle.std.proofs.Common.{◌≡◌, ℕ, suc, ◌+◌, ◌-◌, ◌%◌, ◌^◌, ◌<◌, ◌≤◌, Bool, true, false, ◌&&◌, ltb, List, [], ℤ, pos, negsuc, neg_ℤ, ◌≤ℤ◌, refl, ap, subst, arith}
+use Rattle.std.specs.Prelude.{int_le}
 use Rattle.std.specs.Int.{cast_signed, w64}
 use Rattle.std.specs.List.{list_all}
 use Rattle.std.proofs.lemmas.Bool.{ltb-true, ltb-false, lt-ltb, le-ltb}
@@ -8,12 +8,14 @@ use Rattle.std.proofs.lemmas.Int.{ints}
 use Rattle.vk_types.specs.declared.types.Ty.{Ty}
 use Rattle.vk_types.specs.declared.types.Ty.TheVariants.{I8, I16, I32, I64, U8, U16, U32, U64}
 use Rattle.vk_types.specs.declared.types.Word.{Word}
+use Rattle.vk_types.specs.Conversions.{greatest_of, least_of}
+use Rattle.vk_types.specs.Numbers.{number_of}
 use Rattle.vk_kinds.specs.Sizes.{bytes_of}
 use Rattle.vk_code.proofs.Faults.{and_left, and_right}
 use Rattle.vk_code.specs.Valid.{is_canonical}
 use Rattle.vk_object.specs.Texts.{is_word_of}
 use Rattle.vk_format.specs.Codec.{FitAfter}
-use Rattle.vk_code_format.specs.Fields.{element, extended, sign_extended}
+use Rattle.vk_code_format.specs.Fields.{element, extended}
 use Rattle.vk_object_format.specs.declared.rows.RawObject.{RawObject}
 use Rattle.vk_object_laws.specs.Ranges.{word_in_range}
 use Rattle.vk_object_laws.proofs.Elements.{great_number, small_number}
@@ -22,6 +24,12 @@ use Rattle.vk_object_laws.proofs.FitCodes.{all_both}
 
 le_from : (x y : ℤ) → int_le x y ≡ true → x ≤ℤ y
 le_from x y h = grind (arith, ints)
+
+least_le : (t : Ty) (n : ℕ) → is_canonical t n ≡ true → int_le (least_of t) (number_of t n) ≡ true
+least_le t n h = and_left (int_le (least_of t) (number_of t n)) (int_le (number_of t n) (greatest_of t)) h
+
+le_greatest : (t : Ty) (n : ℕ) → is_canonical t n ≡ true → int_le (number_of t n) (greatest_of t) ≡ true
+le_greatest t n h = and_right (int_le (least_of t) (number_of t n)) (int_le (number_of t n) (greatest_of t)) h
 
 -- the low bytes of a number of at most 32 bits in two's complement, where `half` is half of what they hold
 module _ (half n : ℕ) (low : int_le (neg_ℤ (pos half)) (cast_signed w64 n) ≡ true) (high : int_le (cast_signed w64 n) (pos (half - 1)) ≡ true) where
@@ -38,31 +46,31 @@ module _ (half n : ℕ) (low : int_le (neg_ℤ (pos half)) (cast_signed w64 n) �
 module _ (n : ℕ) (lt : n < 2 ^ 64) where
   byte_back : (b : Bool) → ltb n (2 ^ 63) ≡ b → is_canonical I8 n ≡ true → extended I8 (n % 256) ≡ n
   byte_back true e h =
-      let below : n < 128 = small_below 128 n (and_left _ _ h) (and_right _ _ h) (ltb-true n (2 ^ 63) e) (omega arith) in
+      let below : n < 128 = small_below 128 n (least_le I8 n h) (le_greatest I8 n h) (ltb-true n (2 ^ 63) e) (omega arith) in
       let same : n % 256 ≡ n = omega (arith, below) in
       rw (same, lt-ltb n 128 below) refl
   byte_back false e h =
-      let above : 2 ^ 64 ≤ n + 128 = great_above 128 n (and_left _ _ h) (and_right _ _ h) (ltb-false n (2 ^ 63) e) lt in
+      let above : 2 ^ 64 ≤ n + 128 = great_above 128 n (least_le I8 n h) (le_greatest I8 n h) (ltb-false n (2 ^ 63) e) lt in
       let same : n % 256 ≡ n - (2 ^ 64 - 256) = omega (arith, above, lt) in
       rw (same, le-ltb (n - (2 ^ 64 - 256)) 128 (omega (arith, above, lt))) (omega (arith, above, lt))
 
   short_back : (b : Bool) → ltb n (2 ^ 63) ≡ b → is_canonical I16 n ≡ true → extended I16 (n % 65536) ≡ n
   short_back true e h =
-      let below : n < 32768 = small_below 32768 n (and_left _ _ h) (and_right _ _ h) (ltb-true n (2 ^ 63) e) (omega arith) in
+      let below : n < 32768 = small_below 32768 n (least_le I16 n h) (le_greatest I16 n h) (ltb-true n (2 ^ 63) e) (omega arith) in
       let same : n % 65536 ≡ n = omega (arith, below) in
       rw (same, lt-ltb n 32768 below) refl
   short_back false e h =
-      let above : 2 ^ 64 ≤ n + 32768 = great_above 32768 n (and_left _ _ h) (and_right _ _ h) (ltb-false n (2 ^ 63) e) lt in
+      let above : 2 ^ 64 ≤ n + 32768 = great_above 32768 n (least_le I16 n h) (le_greatest I16 n h) (ltb-false n (2 ^ 63) e) lt in
       let same : n % 65536 ≡ n - (2 ^ 64 - 65536) = omega (arith, above, lt) in
       rw (same, le-ltb (n - (2 ^ 64 - 65536)) 32768 (omega (arith, above, lt))) (omega (arith, above, lt))
 
   int_back : (b : Bool) → ltb n (2 ^ 63) ≡ b → is_canonical I32 n ≡ true → extended I32 (n % 4294967296) ≡ n
   int_back true e h =
-      let below : n < 2147483648 = small_below 2147483648 n (and_left _ _ h) (and_right _ _ h) (ltb-true n (2 ^ 63) e) (omega arith) in
+      let below : n < 2147483648 = small_below 2147483648 n (least_le I32 n h) (le_greatest I32 n h) (ltb-true n (2 ^ 63) e) (omega arith) in
       let same : n % 4294967296 ≡ n = omega (arith, below) in
       rw (same, lt-ltb n 2147483648 below) refl
   int_back false e h =
-      let above : 2 ^ 64 ≤ n + 2147483648 = great_above 2147483648 n (and_left _ _ h) (and_right _ _ h) (ltb-false n (2 ^ 63) e) lt in
+      let above : 2 ^ 64 ≤ n + 2147483648 = great_above 2147483648 n (least_le I32 n h) (le_greatest I32 n h) (ltb-false n (2 ^ 63) e) lt in
       let same : n % 4294967296 ≡ n - (2 ^ 64 - 4294967296) = omega (arith, above, lt) in
       rw (same, le-ltb (n - (2 ^ 64 - 4294967296)) 2147483648 (omega (arith, above, lt))) (omega (arith, above, lt))
 

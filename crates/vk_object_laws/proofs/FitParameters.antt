@@ -1,8 +1,7 @@
 -- The rows of parameters and directives fit, and stand for what they were made of.
-use Rattle.std.proofs.Common.{◌≡◌, ℕ, zero, suc, ◌+◌, ◌-◌, ◌%◌, ◌^◌, ◌<◌, ◌≤◌, ◌==◌, Bool, true, false, not, ◌&&◌, ◌||◌, cond, eqb, ltb, List, [], ◌∷◌, ◌++◌, append_assoc, append-nil, length, length-append, map, Option, Some, None, ℤ, pos, negsuc, refl, sym, ap, ap₂, ◌∙◌, subst, arith}
+use Rattle.std.proofs.Common.{◌≡◌, ℕ, suc, ◌+◌, ◌-◌, ◌%◌, ◌^◌, ◌<◌, ◌≤◌, ◌==◌, Bool, true, false, not, ◌&&◌, ◌||◌, cond, eqb, List, [], ◌∷◌, ◌++◌, append_assoc, length, length-append, map, Option, Some, None, ℤ, pos, negsuc, refl, sym, ap, ap₂, ◌∙◌, subst, arith}
 use Rattle.std.specs.Prelude.{nat_lt, nat_le, slice_get}
 use Rattle.std.specs.List.{list_all, list_any}
-use Rattle.std.specs.Ordering.{int_eq}
 use Rattle.std.proofs.lemmas.Bool.{false≢true, le-ltb, eqb-true}
 use Rattle.std.proofs.lemmas.List.{length-map}
 use Rattle.vk_kinds.specs.declared.heads.CType.{CType}
@@ -19,13 +18,13 @@ use Rattle.vk_code.proofs.Faults.{and_left, and_right}
 use Rattle.vk_code.specs.Tests.{pairs}
 use Rattle.vk_code.specs.Valid.{is_good_simdlen}
 use Rattle.vk_object.specs.Objects.{are_apart, is_arm, is_directive, share_name, types_of}
-use Rattle.vk_object.specs.Parameters.{are_kinds, are_typed, is_aligned, is_aligned_at, is_alignment, is_kind, is_kind_at, is_param, is_param_at, is_step, is_whole}
+use Rattle.vk_object.specs.Parameters.{are_kinds, are_typed, is_aligned, is_aligned_at, is_kind, is_kind_at, is_param, is_param_at, is_step, is_whole}
 use Rattle.vk_format.specs.declared.rules.ObjectRule.TheVariants.{O7}
-use Rattle.vk_format.specs.Codec.{FitAfter, judged, number}
+use Rattle.vk_format.specs.Codec.{FitAfter, judged}
 use Rattle.vk_code_format.specs.declared.rows.ParamKind.TheVariants as param_kind
 use Rattle.vk_code_format.specs.declared.rows.ParamRow.{ParamRow}
-use Rattle.vk_code_format.specs.Fields.{none_at, optional, or_none}
-use Rattle.vk_code_format.specs.Parameters.{align_fits, kind_fits, kind_of, kind_row, param, param_of, param_row, signed, signed_bits, step_by, step_row, value_fits}
+use Rattle.vk_code_format.specs.Fields.{optional}
+use Rattle.vk_code_format.specs.Parameters.{align_fits, kind_fits, kind_row, param, param_of, param_row, signed, signed_bits, step_by, step_row, value_fits}
 use Rattle.vk_object_format.specs.declared.rows.RawDirective.{RawDirective}
 use Rattle.vk_object_format.specs.declared.rows.RawObject.{RawObject}
 use Rattle.vk_object_format.specs.Object.{directive, is_directive_after}
@@ -126,12 +125,13 @@ module _ (whole : List CType) (types : List ℕ) (all : List Param) where
   params_fit pre (u ∷ ts) before (p ∷ ps) len is t r f =
       let at : slice_get whole (length before) ≡ Some u = ap₂ (λ (w : List CType) (n : ℕ). slice_get w n) is len ∙ get_behind pre u ts in
       let here = param_fit u types all p (and_left (param_in_range p) (list_all param_in_range ps) r) (and_left (is_param all p) (list_all (is_param all) ps) f)
-      (and_left (is_param_at types (ctype_number u) p) (pairs (is_param_at types) (map ctype_number ts) ps) t) in
-      (subst (λ (o : Option CType). (param {R = RawObject} o).fits (param_row p)) (sym at) here,
-      params_fit (pre ++ u ∷ []) ts (before ++ param_row p ∷ []) ps
-      (length-append before (param_row p ∷ []) ∙ ap (λ n. n + 1) len ∙ sym (length-append pre (u ∷ []))) (is ∙ sym (append_assoc pre (u ∷ []) ts))
-      (and_right (is_param_at types (ctype_number u) p) (pairs (is_param_at types) (map ctype_number ts) ps) t)
-      (and_right (param_in_range p) (list_all param_in_range ps) r) (and_right (is_param all p) (list_all (is_param all) ps) f))
+      (and_left (is_param_at types (ctype_number u) p) (pairs (is_param_at types) (map ctype_number ts) ps) t) in (
+        subst (λ (o : Option CType). (param {R = RawObject} o).fits (param_row p)) (sym at) here,
+        params_fit (pre ++ u ∷ []) ts (before ++ param_row p ∷ []) ps
+            (length-append before (param_row p ∷ []) ∙ ap (λ n. n + 1) len ∙ sym (length-append pre (u ∷ []))) (is ∙ sym (append_assoc pre (u ∷ []) ts))
+            (and_right (is_param_at types (ctype_number u) p) (pairs (is_param_at types) (map ctype_number ts) ps) t)
+            (and_right (param_in_range p) (list_all param_in_range ps) r) (and_right (is_param all p) (list_all (is_param all) ps) f),
+      )
 
 pub pairs_long : {A B : Type 0} (p : A → B → Bool) (xs : List A) (ys : List B) → pairs p xs ys ≡ true → length xs ≡ length ys
 pairs_long p [] [] h = refl
@@ -163,11 +163,12 @@ module _ (target : Target) (head : HeadTypes) where
       length-map s.params param_row ∙ sym (pairs_long (is_param_at (types_of head)) (types_of head) s.params typed) ∙ length-map head.params ctype_number in
       let test : is_directive_after target head before (raw_directive s) ≡ true =
       ap (λ t. is_directive target head t && not (list_any (λ e. share_name target head (signature_of e) t) before)) (directive_same s r h)
-      ∙ and_true (is_directive target head s) (not (list_any (λ e. share_name target head (signature_of e) s) before)) h apart in
-      ((branch_fits s.branch, (simdlen_fits s.simdlen (lanes_of s h), ((long, params_fit head.params (types_of head) s.params [] head.params [] s.params refl refl typed r (kinds_of s h)), refl))),
-      passes (is_directive_after target head before) (raw_directive s) test)
+      ∙ and_true (is_directive target head s) (not (list_any (λ e. share_name target head (signature_of e) s) before)) h apart in (
+        (branch_fits s.branch, (simdlen_fits s.simdlen (lanes_of s h), ((long, params_fit head.params (types_of head) s.params [] head.params [] s.params refl refl typed r (kinds_of s h)), refl))),
+        passes (is_directive_after target head before) (raw_directive s) test,
+      )
 
-  directives_same : (ss : List SignatureTree) → list_all directive_in_range ss ≡ true → list_all (is_directive target head) ss ≡ true → map signature_of (map raw_directive ss) ≡ ss
+  pub directives_same : (ss : List SignatureTree) → list_all directive_in_range ss ≡ true → list_all (is_directive target head) ss ≡ true → map signature_of (map raw_directive ss) ≡ ss
   directives_same [] r h = refl
   directives_same (s ∷ ss) r h =
       ap₂ (λ t ts. t ∷ ts)
@@ -217,11 +218,12 @@ module _ (target : Target) (head : HeadTypes) where
       let here = and_left (is_directive target head s) (list_all (is_directive target head) ss) h in
       let range = and_left (directive_in_range s) (list_all directive_in_range ss) r in
       let alone : not (list_any (share_name target head (signature_of (raw_directive s))) ss) ≡ true =
-      ap (λ t. not (list_any (share_name target head t) ss)) (directive_same s range here) ∙ and_left (not (list_any (share_name target head s) ss)) (are_apart target head ss) a in
-      (directive_fit before s range here (and_left (not (list_any (λ e. share_name target head (signature_of e) s) before)) (clear before ss) c),
-      directives_fit (before ++ raw_directive s ∷ []) ss (and_right (directive_in_range s) (list_all directive_in_range ss) r) (and_right (is_directive target head s) (list_all (is_directive target head) ss) h)
-      (and_right (not (list_any (share_name target head s) ss)) (are_apart target head ss) a)
-      (clear_push before (raw_directive s) ss (and_right (not (list_any (λ e. share_name target head (signature_of e) s) before)) (clear before ss) c) alone))
+      ap (λ t. not (list_any (share_name target head t) ss)) (directive_same s range here) ∙ and_left (not (list_any (share_name target head s) ss)) (are_apart target head ss) a in (
+        directive_fit before s range here (and_left (not (list_any (λ e. share_name target head (signature_of e) s) before)) (clear before ss) c),
+        directives_fit (before ++ raw_directive s ∷ []) ss (and_right (directive_in_range s) (list_all directive_in_range ss) r) (and_right (is_directive target head s) (list_all (is_directive target head) ss) h)
+            (and_right (not (list_any (share_name target head s) ss)) (are_apart target head ss) a)
+            (clear_push before (raw_directive s) ss (and_right (not (list_any (λ e. share_name target head (signature_of e) s) before)) (clear before ss) c) alone),
+      )
 
   pub clear_first : (ss : List SignatureTree) → clear [] ss ≡ true
   unfolding clear

@@ -1,12 +1,11 @@
 -- When small fields and lists fit.
-use Rattle.std.proofs.Common.{◌≡◌, ℕ, ◌+◌, ◌^◌, ◌<◌, ◌≤◌, ◌==◌, Bool, true, false, ◌&&◌, ◌||◌, cond, eqb, List, [], ◌∷◌, ◌++◌, length, map, Option, Some, None, refl, sym, ap, ◌∙◌, subst, arith}
+use Rattle.std.proofs.Common.{◌≡◌, ℕ, ◌^◌, ◌<◌, ◌≤◌, ◌==◌, Bool, true, false, ◌||◌, cond, List, [], ◌∷◌, ◌++◌, length, map, Option, Some, None, refl, sym, ap, subst, arith}
 use Rattle.std.specs.Prelude.{nat_lt, nat_le}
 use Rattle.std.specs.List.{list_all, flat_map}
 use Rattle.std.specs.Option.{option_map}
 use Rattle.std.proofs.lemmas.Bool.{false≢true, ltb-true, leb-true, eqb-true, ne_eqb}
 use Rattle.vk_types.specs.declared.types.Ty.{Ty}
 use Rattle.vk_types.specs.declared.types.Ty.TheVariants.{I8, I16, I32, I64, U8, U16, U32, U64}
-use Rattle.vk_types.specs.Formats.{type_number}
 use Rattle.vk_kinds.specs.declared.heads.CType.{CType}
 use Rattle.vk_kinds.specs.declared.heads.CType.TheVariants.{Void, Int, Ptr}
 use Rattle.vk_kinds.specs.declared.kinds.Branch.{Branch}
@@ -18,8 +17,8 @@ use Rattle.vk_code.proofs.Faults.{and_left, and_right}
 use Rattle.vk_code.specs.Valid.{is_good_simdlen, is_integer, is_result}
 use Rattle.vk_object.specs.Texts.{ascend}
 use Rattle.vk_format.specs.declared.rules.ObjectRule.TheVariants.{O7}
-use Rattle.vk_format.specs.Codec.{Codec, FitAfter, passing, number, many, list, repeated, write_after}
-use Rattle.vk_code_format.specs.Fields.{below, coded, comes_after, flag, int_type, last_of, none_at, or_none, register_or_none, result_type, simdlen, target, value_type}
+use Rattle.vk_format.specs.Codec.{Codec, FitAfter, passing, many, list, repeated, write_after}
+use Rattle.vk_code_format.specs.Fields.{below, coded, comes_after, flag, int_type, last_of, none_at, register_or_none, result_type, simdlen, target, value_type}
 use Rattle.vk_object_format.specs.declared.rows.RawObject.{RawObject}
 use Rattle.vk_object_format.specs.Object.{branches, branch_number, flags}
 use Rattle.vk_object_laws.proofs.Lists.{last_push}
@@ -176,24 +175,35 @@ pub fit_here : {A : Type 0} (c : List A → Codec RawObject A) (p : A → Bool) 
 fit_here c p each before [] h = tt
 fit_here c p each before (x ∷ xs) h = (each before x (and_left (p x) (list_all p xs) h), fit_here c p each (before ++ x ∷ []) xs (and_right (p x) (list_all p xs) h))
 
--- members of which each comes behind the last
-module _ {A K : Type 0} (c : List A → Codec RawObject A) (p : A → Bool) (key : A → K) (rel : K → K → Bool)
-    (each : (before : List A) (x : A) → p x ≡ true → comes_after rel (option_map key (last_of before)) (key x) ≡ true → (c before).fits x) where
-  behind_first : List A → List A → Type 0
-  behind_first before [] = Unit {0}
-  behind_first before (x ∷ xs) = comes_after rel (option_map key (last_of before)) (key x) ≡ true
+-- members of which each comes behind the last, made of others
+module _ {A B K : Type 0} (c : List A → Codec RawObject A) (g : B → A) (p : B → Bool) (key : A → K) (rel : K → K → Bool)
+    (each : (before : List A) (y : B) → p y ≡ true → comes_after rel (option_map key (last_of before)) (key (g y)) ≡ true → (c before).fits (g y)) where
+  made_first : List A → List B → Type 0
+  made_first before [] = Unit {0}
+  made_first before (y ∷ ys) = comes_after rel (option_map key (last_of before)) (key (g y)) ≡ true
 
-  in_order : (before xs : List A) → list_all p xs ≡ true → ascend (λ a b. rel (key a) (key b)) xs ≡ true → behind_first before xs → FitAfter c before xs
-  unfolding behind_first
-  in_order before [] all asc first = tt
-  in_order before (x ∷ []) all asc first = (each before x (and_left (p x) true all) first, tt)
-  in_order before (x ∷ y ∷ ys) all asc first =
-      let next : comes_after rel (option_map key (last_of (before ++ x ∷ []))) (key y) ≡ true =
-      subst (λ o. comes_after rel (option_map key o) (key y) ≡ true) (sym (last_push before x)) (and_left (rel (key x) (key y)) (ascend (λ a b. rel (key a) (key b)) (y ∷ ys)) asc) in
-      (each before x (and_left (p x) (list_all p (y ∷ ys)) all) first,
-      in_order (before ++ x ∷ []) (y ∷ ys) (and_right (p x) (list_all p (y ∷ ys)) all) (and_right (rel (key x) (key y)) (ascend (λ a b. rel (key a) (key b)) (y ∷ ys)) asc) next)
+  made_in_order : (before : List A) (ys : List B) → list_all p ys ≡ true → ascend (λ a b. rel (key (g a)) (key (g b))) ys ≡ true → made_first before ys → FitAfter c before (map g ys)
+  unfolding made_first
+  made_in_order before [] all asc first = tt
+  made_in_order before (x ∷ []) all asc first = (each before x (and_left (p x) true all) first, tt)
+  made_in_order before (x ∷ y ∷ ys) all asc first =
+      let next : comes_after rel (option_map key (last_of (before ++ g x ∷ []))) (key (g y)) ≡ true =
+      subst (λ o. comes_after rel (option_map key o) (key (g y)) ≡ true) (sym (last_push before (g x))) (and_left (rel (key (g x)) (key (g y))) (ascend (λ a b. rel (key (g a)) (key (g b))) (y ∷ ys)) asc) in (
+        each before x (and_left (p x) (list_all p (y ∷ ys)) all) first,
+        made_in_order (before ++ g x ∷ []) (y ∷ ys) (and_right (p x) (list_all p (y ∷ ys)) all) (and_right (rel (key (g x)) (key (g y))) (ascend (λ a b. rel (key (g a)) (key (g b))) (y ∷ ys)) asc) next,
+      )
 
-  pub fit_in_order : (xs : List A) → list_all p xs ≡ true → ascend (λ a b. rel (key a) (key b)) xs ≡ true → FitAfter c [] xs
-  unfolding behind_first
-  fit_in_order [] all asc = tt
-  fit_in_order (x ∷ xs) all asc = in_order [] (x ∷ xs) all asc refl
+  pub fit_made : (ys : List B) → list_all p ys ≡ true → ascend (λ a b. rel (key (g a)) (key (g b))) ys ≡ true → FitAfter c [] (map g ys)
+  unfolding made_first
+  fit_made [] all asc = tt
+  fit_made (y ∷ ys) all asc = made_in_order [] (y ∷ ys) all asc refl
+
+map_same : {A : Type 0} (xs : List A) → map (λ x. x) xs ≡ xs
+map_same [] = refl
+map_same (x ∷ xs) = ap (λ ys. x ∷ ys) (map_same xs)
+
+-- or as they are
+pub fit_in_order : {A K : Type 0} (c : List A → Codec RawObject A) (p : A → Bool) (key : A → K) (rel : K → K → Bool)
+    → ((before : List A) (x : A) → p x ≡ true → comes_after rel (option_map key (last_of before)) (key x) ≡ true → (c before).fits x)
+    → (xs : List A) → list_all p xs ≡ true → ascend (λ a b. rel (key a) (key b)) xs ≡ true → FitAfter c [] xs
+fit_in_order c p key rel each xs all asc = subst (FitAfter c []) (map_same xs) (fit_made c (λ x. x) p key rel each xs all asc)

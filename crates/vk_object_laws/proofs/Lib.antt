@@ -7,3 +7,5 @@ pub mod Fitting
 pub mod FitParameters
 pub mod FitCodes
 pub mod FitElements
+pub mod FitRows
+pub mod FitTables

@@ -1,6 +1,6 @@
 -- The numbers of an object are in the ranges of their types, as those of each value in code are; and there are at most 4294967295
 -- symbols.
-use Rattle.std.specs.Prelude.{ℕ, ◌^◌, ◌==◌, nat_lt, Bool, true, ◌&&◌, ℤ, pos, negsuc, List, length, Option, Some, None}
+use Rattle.std.specs.Prelude.{◌^◌, ◌==◌, nat_lt, Bool, true, ◌&&◌, ℤ, pos, negsuc, length, Option, Some, None}
 use Rattle.std.specs.List.{list_all}
 use Rattle.vk_types.specs.declared.types.Word.{Word}
 use Rattle.vk_kinds.specs.declared.kinds.Kind.{Kind}

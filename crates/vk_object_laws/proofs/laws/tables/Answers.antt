@@ -1,4 +1,3 @@
-use Rattle.vk_object_laws.proofs.FitElements.{elements_fit}
 use Rattle.vk_object_laws.proofs.Again.{tables_again}
 use Rattle.vk_object_laws.proofs.Ends.{tables_object}
 use Rattle.vk_object_laws.proofs.laws.tables.Goals as goal
