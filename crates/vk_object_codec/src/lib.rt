@@ -2,6 +2,7 @@
 #![tactic(auto)]
 
 pub mod feed;
+pub mod laws;
 pub mod read;
 pub mod rows;
 
