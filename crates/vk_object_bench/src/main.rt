@@ -3,8 +3,8 @@
 //!
 //!     vk_object_bench WORK COUNT SIZE
 //!
-//! WORK is `elements` (an array of COUNT bytes), `instrs` (a code of COUNT instructions) or `symbols` (COUNT arrays that are declared
-//! only). The pieces have SIZE bytes.
+//! WORK is `elements` (an array of COUNT bytes), `instrs` (a code of COUNT instructions), `symbols` (COUNT arrays that are declared
+//! only) or `directives` (a function with COUNT directives, at most 65535). The pieces have SIZE bytes.
 #![tactic(auto)]
 
 mod works;

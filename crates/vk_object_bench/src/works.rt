@@ -10,6 +10,7 @@ pub enum Work {
     Elements,
     Instrs,
     Symbols,
+    Directives,
 }
 
 // `VKOBJECT`, version 1, x86-64, 0.
@@ -105,6 +106,28 @@ fn symbols(alloc: Global, count: u32) -> Result<Vec<u8>, Memory> {
     Ok(out)
 }
 
+// A function of one number that is declared only, with directives of different steps.
+fn directives(alloc: Global, count: u32) -> Result<Vec<u8>, Memory> {
+    let count = (count % 65536) as u16;
+    let mut out = one_symbol(alloc)?;
+    put_u32(&mut out, 0)?;
+    put_u32(&mut out, 1)?;
+    put_u32(&mut out, 0)?;
+    put_u8(&mut out, 255)?;
+    put_u8(&mut out, 1)?;
+    put_u8(&mut out, 2)?;
+    put_u16(&mut out, count)?;
+    for number in 0..count {
+        put_u8(&mut out, 2)?;
+        put_u16(&mut out, 4)?;
+        put_u8(&mut out, 2)?;
+        put_u32(&mut out, u32::from(number) + 1)?;
+        put_u32(&mut out, 0)?;
+    }
+    put_u8(&mut out, 0)?;
+    Ok(out)
+}
+
 impl Work {
     /// The work with this name.
     pub fn named(name: &str) -> Option<Work> {
@@ -112,6 +135,7 @@ impl Work {
             "elements" => Some(Work::Elements),
             "instrs" => Some(Work::Instrs),
             "symbols" => Some(Work::Symbols),
+            "directives" => Some(Work::Directives),
             _ => None,
         }
     }
@@ -122,6 +146,7 @@ impl Work {
             Work::Elements => elements(alloc, count),
             Work::Instrs => instrs(alloc, count),
             Work::Symbols => symbols(alloc, count),
+            Work::Directives => directives(alloc, count),
         }
     }
 }
