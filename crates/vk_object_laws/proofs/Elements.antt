@@ -1,5 +1,5 @@
 -- Elements that are read are canonical for their type.
-use Rattle.std.proofs.Common.{◌≡◌, ℕ, suc, ◌+◌, ◌*◌, ◌-◌, ◌%◌, ◌^◌, ◌<◌, ◌≤◌, Bool, true, false, ◌&&◌, cond, ltb, List, [], ◌∷◌, ℤ, pos, negsuc, neg_ℤ, ◌≤ℤ◌, refl, subst, arith}
+use Rattle.std.proofs.Common.{◌≡◌, ℕ, suc, ◌+◌, ◌*◌, ◌-◌, ◌%◌, ◌^◌, ◌<◌, ◌≤◌, Bool, true, false, ◌&&◌, cond, ltb, List, [], ℤ, pos, negsuc, neg_ℤ, ◌≤ℤ◌, refl, subst, arith}
 use Rattle.std.specs.Prelude.{int_le}
 use Rattle.std.specs.Int.{cast_signed, w64}
 use Rattle.std.specs.List.{list_all}
@@ -12,7 +12,7 @@ use Rattle.vk_kinds.specs.Sizes.{bytes_of}
 use Rattle.vk_code.specs.Valid.{is_canonical}
 use Rattle.vk_object.specs.Texts.{is_word_of}
 use Rattle.vk_format.specs.Codec.{FitAfter}
-use Rattle.vk_code_format.specs.Fields.{element, extended, word_of}
+use Rattle.vk_code_format.specs.Fields.{element, extended}
 use Rattle.vk_object_format.specs.declared.rows.RawObject.{RawObject}
 use Rattle.vk_object_laws.proofs.Lists.{all_fit_here, and_true}
 
@@ -22,10 +22,10 @@ int_le-true x y h = grind (arith, ints)
 within : (low high z : ℤ) → low ≤ℤ z → z ≤ℤ high → (int_le low z && int_le z high) ≡ true
 within low high z l h = and_true (int_le low z) (int_le z high) (int_le-true low z l) (int_le-true z high h)
 
-small_number : (n : ℕ) → n < 2 ^ 63 → cast_signed w64 n ≡ pos n
+pub small_number : (n : ℕ) → n < 2 ^ 63 → cast_signed w64 n ≡ pos n
 small_number n h = rw (lt-ltb _ _ h) refl
 
-great_number : (n : ℕ) → 2 ^ 63 ≤ n → cast_signed w64 n ≡ negsuc (2 ^ 64 - suc n)
+pub great_number : (n : ℕ) → 2 ^ 63 ≤ n → cast_signed w64 n ≡ negsuc (2 ^ 64 - suc n)
 great_number n h = rw (le-ltb _ _ h) refl
 
 -- a number in two's complement of 1 + k bits, where `half` is 2 to the k

@@ -1,15 +1,12 @@
 -- Tables of which no condition is broken have symbols that are used once, and codes that are valid.
-use Rattle.std.proofs.Common.{◌≡◌, ℕ, zero, suc, ◌+◌, ◌<◌, Bool, true, false, not, ◌&&◌, ◌||◌, cond, List, [], ◌∷◌, ◌++◌, length, map, Option, Some, None, refl, sym, ap, ap₂, ◌∙◌, subst, arith}
-use Rattle.std.specs.Prelude.{nat_lt, is_some}
+use Rattle.std.proofs.Common.{◌≡◌, ℕ, ◌+◌, ◌<◌, Bool, true, false, not, ◌&&◌, ◌||◌, cond, List, [], ◌∷◌, length, map, Option, Some, None, refl, sym, subst, arith}
 use Rattle.std.specs.List.{list_all, range_with_len}
 use Rattle.std.specs.Option.{option_map}
-use Rattle.std.proofs.lemmas.Bool.{false≢true, eqb-true, lt-ltb}
-use Rattle.std.proofs.lemmas.List.{length-map}
-use Rattle.vk_code.specs.Listing.{Listing}
+use Rattle.std.proofs.lemmas.Bool.{eqb-true, lt-ltb}
 use Rattle.vk_code.specs.Tests.{all_good, first_bad}
 use Rattle.vk_code.specs.Valid.{fault_of, verdicts}
 use Rattle.vk_code.proofs.Faults.{and_left, and_right, everywhere}
-use Rattle.vk_object.specs.Objects.{FunctionLists, ObjectLists, are_codes, has_codes, has_good_codes, has_types, is_code_for, is_function, is_object, is_simd, is_used_once, function_before, names_of}
+use Rattle.vk_object.specs.Objects.{are_codes, has_codes, has_good_codes, has_types, is_code_for, is_function, is_object, is_simd, is_used_once, function_before, names_of}
 use Rattle.vk_object.specs.Texts.{ascend}
 use Rattle.vk_format.specs.declared.rules.ObjectFault.{ObjectFault}
 use Rattle.vk_code_format.specs.declared.rows.CodeRow.{CodeRow}
@@ -18,9 +15,9 @@ use Rattle.vk_code_format.specs.Values.{bad_part, earlier, listing_of, places_ve
 use Rattle.vk_object_format.specs.declared.rows.RawCodes.{RawCodes}
 use Rattle.vk_object_format.specs.declared.rows.RawFunction.{RawFunction}
 use Rattle.vk_object_format.specs.declared.rows.RawObject.{RawObject}
-use Rattle.vk_object_format.specs.Object.{IsObject, bad_part_of, code_fault, codes_in, front_length, function_fault, function_length, functions_at, object_faults, object_table, place_in, symbol_fault, symbol_length, symbols_at, table_bytes}
+use Rattle.vk_object_format.specs.Object.{IsObject, bad_part_of, code_fault, codes_in, front_length, function_fault, function_length, functions_at, object_faults, place_in, symbol_fault, symbol_length, symbols_at, table_bytes}
 use Rattle.vk_object_format.specs.Values.{codes_of, function_of, head_of, object_of}
-use Rattle.vk_code_format.specs.Places.{code_length, part_at}
+use Rattle.vk_code_format.specs.Places.{code_length}
 use Rattle.vk_object_laws.proofs.Lists.{and_true}
 use Rattle.vk_object_laws.proofs.Rows.{has_rows, rows_fit}
 

@@ -2,3 +2,10 @@ pub mod Lists
 pub mod Elements
 pub mod Rows
 pub mod Ends
+pub mod Again
+pub mod Fitting
+pub mod FitParameters
+pub mod FitCodes
+pub mod FitElements
+pub mod FitRows
+pub mod FitTables

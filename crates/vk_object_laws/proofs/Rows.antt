@@ -1,9 +1,9 @@
 -- Rows that fit their fields have what the conditions on an object ask of each row and of its place among the others.
-use Rattle.std.proofs.Common.{◌≡◌, ℕ, ◌+◌, ◌^◌, ◌<◌, ◌≤◌, ◌==◌, Bool, true, false, not, ◌&&◌, ◌||◌, cond, List, [], ◌∷◌, ◌++◌, length, map, Option, Some, None, refl, sym, ap, ap₂, ◌∙◌, subst, arith, slice_get}
-use Rattle.std.specs.Prelude.{nat_le, nat_lt, is_some, IsSomeAnd}
+use Rattle.std.proofs.Common.{◌≡◌, ℕ, ◌<◌, ◌==◌, Bool, true, false, not, ◌&&◌, ◌||◌, cond, List, [], ◌∷◌, length, map, Option, Some, None, refl, sym, ap, ◌∙◌, subst, arith}
+use Rattle.std.specs.Prelude.{nat_le, nat_lt, is_some}
 use Rattle.std.specs.List.{list_all, list_any}
 use Rattle.std.specs.Option.{option_map}
-use Rattle.std.proofs.lemmas.Bool.{false≢true, eq-eqb, le-leb}
+use Rattle.std.proofs.lemmas.Bool.{eq-eqb, le-leb}
 use Rattle.std.proofs.lemmas.List.{length-map}
 use Rattle.vk_types.specs.declared.types.Ty.{Ty}
 use Rattle.vk_types.specs.declared.types.Ty.TheVariants.{I8, I16, I32, I64, U8, U16, U32, U64}
@@ -16,10 +16,10 @@ use Rattle.vk_code.proofs.Faults.{and_left, and_right}
 use Rattle.vk_code.specs.Valid.{is_integer}
 use Rattle.vk_object.specs.Objects.{ObjectLists, are_apart, data_before, function_before, has_codes, is_data, is_directive, is_function, is_head, is_symbol, share_name, types_of}
 use Rattle.vk_object.specs.Texts.{ascend, ends_well, is_before}
-use Rattle.vk_format.specs.Codec.{FitAfter, only_if}
+use Rattle.vk_format.specs.Codec.{only_if}
 use Rattle.vk_code_format.specs.Codes.{in_object}
 use Rattle.vk_code_format.specs.Values.{listing_of}
-use Rattle.vk_code_format.specs.Fields.{comes_after, last_of, result_type, result_type_of, value_type, value_type_of}
+use Rattle.vk_code_format.specs.Fields.{comes_after, last_of, result_type, result_type_of, value_type}
 use Rattle.vk_object_format.specs.declared.rows.RawCodes.{RawCodes}
 use Rattle.vk_object_format.specs.declared.rows.RawData.{RawData}
 use Rattle.vk_object_format.specs.declared.rows.RawDirective.{RawDirective}

@@ -1,5 +1,0 @@
-pub mod Feeding
-pub mod Wanted
-pub mod WantedCode
-mod WantedData
-mod WantedFunction

@@ -1,0 +1,7 @@
+-- Members that are seen as others.
+use Rattle.std.proofs.Common.{◌≡◌, Bool, ◌&&◌, List, [], ◌∷◌, map, refl, ap}
+use Rattle.std.specs.List.{list_all}
+
+pub all_mapped : {A B : Type 0} (f : A → B) (p : B → Bool) (xs : List A) → list_all p (map f xs) ≡ list_all (λ x. p (f x)) xs
+all_mapped f p [] = refl
+all_mapped f p (x ∷ xs) = ap (λ b. p (f x) && b) (all_mapped f p xs)
