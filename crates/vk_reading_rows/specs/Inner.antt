@@ -1,3 +1,4 @@
 pub mod Noted
 pub mod Collected
 pub mod Rows
+pub mod Places
