@@ -7,8 +7,7 @@ use Rattle.vk_rules_book.specs.Rules.{Subject}
 use Rattle.vk_rules_book.specs.Scopes.{text_of}
 use Rattle.vk_meaning.specs.Programs.{Definition, with_body, defined_by, defined_behind, definition_of}
 use Rattle.vk_reading_rows.specs.declared.functions.FunctionPlace.{FunctionPlace}
-use Rattle.vk_reading_rows.specs.Functions.{defined_as, defined_at, defined_in}
-use Rattle.vk_reading_rows.specs.Inner.Places.{defines, is_text, first_place}
+use Rattle.vk_reading_rows.specs.Functions.{defined_as, defined_at, defined_in, defines, is_text, first_place, place_of}
 use Rattle.vk_reading_rows.proofs.Positions.{position_first}
 
 -- a place and what is defined there, or neither
@@ -89,7 +88,7 @@ units_placed t front (u ∷ us) =
     ∙ ap (λ (n : ℕ). defined_at ((front ++ u ∷ []) ++ us) (first_place n us t)) (sym number)
     ∙ units_placed t (front ++ u ∷ []) us)
 
-pub defined_first : (units : List Subject) (t : List ℕ) → defined_at units (first_place 0 units t) ≡ definition_of units t
+pub defined_first : (units : List Subject) (t : List ℕ) → defined_at units (place_of units t) ≡ definition_of units t
 defined_first units t = units_placed t [] units
 
 -- ---- tables
@@ -98,7 +97,5 @@ pub place_back : (o : Option FunctionPlace) → unwrap_or (option_map Some o) No
 place_back None = refl
 place_back (Some place) = refl
 
-pub places_are : (units : List Subject) (at : List ℕ → Option FunctionPlace) → ((t : List ℕ) → defined_at units (at t) ≡ definition_of units t) → (names : List (List ℕ)) →
-    map (defined_at units) (map at names) ≡ map (definition_of units) names
-places_are units at are [] = refl
-places_are units at are (t ∷ names) = λ i. are t i ∷ places_are units at are names i
+pub places_are : (units : List Subject) (at : List ℕ → Option FunctionPlace) → ((t : List ℕ) → at t ≡ place_of units t) → (names : List (List ℕ)) → map at names ≡ map (place_of units) names
+places_are units at are names = λ i. map (λ t. are t i) names

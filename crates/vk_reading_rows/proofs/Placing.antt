@@ -5,7 +5,7 @@ use Rattle.std.specs.Option.{option_or, option_map}
 use Rattle.vk_ast.specs.Units.{ItemTree}
 use Rattle.vk_rules_book.specs.Rules.{Subject}
 use Rattle.vk_reading_rows.specs.declared.functions.FunctionPlace.{FunctionPlace}
-use Rattle.vk_reading_rows.specs.Inner.Places.{place_among, first_place}
+use Rattle.vk_reading_rows.specs.Functions.{place_among, first_place}
 use Rattle.vk_reading_rows.proofs.Positions.{position_more}
 
 pub or_none : {T : Type 0} (o : Option T) → option_or o None ≡ o

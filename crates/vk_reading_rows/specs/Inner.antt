@@ -1,4 +1,3 @@
 pub mod Noted
 pub mod Collected
 pub mod Rows
-pub mod Places

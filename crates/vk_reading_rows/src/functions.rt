@@ -4,12 +4,10 @@ ghost use Rattle.std.specs.Prelude.{◌≡◌, ◌++◌, ◌∷◌, [], IfOk, Li
 ghost use Rattle.std.specs.Option.{option_map, option_or};
 ghost use Rattle.vk_ast.specs.Units.{item_of};
 ghost use Rattle.vk_rules_book.specs.Rules.{Subject};
-ghost use Rattle.vk_meaning.specs.Programs.{definition_of};
 ghost use Rattle.vk_rules.specs.Verdicts.{judged};
-ghost use Rattle.vk_reading_rows.specs.Functions.{ArePlaces, defined_at};
+ghost use Rattle.vk_reading_rows.specs.Functions.{ArePlaces, defines, name_defined, place_among, place_of};
 ghost use Rattle.vk_reading_rows.specs.Objects.{subjects_of};
 ghost use Rattle.vk_reading_rows.specs.Inner.Noted.{noted};
-ghost use Rattle.vk_reading_rows.specs.Inner.Places.{defines, first_place, name_defined, place_among};
 
 use crate::objects::text_of;
 use crate::texts::{each_name, note, noted_or};
@@ -92,7 +90,7 @@ fn places_of<'a>(
     alloc: Global,
     units: &'a [Checked],
 ) -> Result<HashMap<&'a [u8], Option<FunctionPlace>>, Memory>
-    ensures { IfOk result (λ table. (t : List ℕ) → noted table t ≡ option_map Some (first_place 0 (subjects_of units.now) t)) }
+    ensures { IfOk result (λ table. (t : List ℕ) → noted table t ≡ option_map Some (place_of (subjects_of units.now) t)) }
 {
     let mut table = HashMap::new(alloc);
     for (number, checked) in units.iter().enumerate() {
@@ -115,7 +113,7 @@ pub fn function_places<'a>(
 impl<'a> FunctionPlaces<'a> {
     /// Where the function with this name is defined.
     pub fn of(&self, text: &[u8]) -> Option<FunctionPlace>
-        ensures { (units : List Subject) → ArePlaces units self.now → defined_at units result ≡ definition_of units text.now }
+        ensures { (units : List Subject) → ArePlaces units self.now → result ≡ place_of units text.now }
     {
         noted_or(&self.by_text, text, None)
     }
@@ -126,7 +124,7 @@ impl<'a> FunctionPlaces<'a> {
         alloc: Global,
         names: &NameTable,
     ) -> Result<Vec<Option<FunctionPlace>>, Memory>
-        ensures { (units : List Subject) → ArePlaces units self.now → IfOk result (λ list. map (defined_at units) list.items ≡ map (definition_of units) (names.now ++ [] ∷ [])) }
+        ensures { (units : List Subject) → ArePlaces units self.now → IfOk result (λ list. list.items ≡ map (place_of units) (names.now ++ [] ∷ [])) }
     {
         each_name(alloc, &self.by_text, None, names)
     }

@@ -2,7 +2,7 @@ use Rattle.std.proofs.Common.{sym}
 use Rattle.vk_ast.specs.Units.{item_of}
 use Rattle.vk_rules.specs.Verdicts.{judged}
 use Rattle.vk_reading_rows.specs.Inner.Noted.{noted}
-use Rattle.vk_reading_rows.specs.Inner.Places.{defines}
+use Rattle.vk_reading_rows.specs.Functions.{defines}
 use Rattle.vk_reading_rows.proofs.Placing.{or_none, one_item_placed}
 use Rattle.vk_reading_rows.proofs.functions.note_items.Goals as goal
 

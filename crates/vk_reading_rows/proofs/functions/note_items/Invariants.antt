@@ -3,7 +3,7 @@ use Rattle.std.specs.Option.{option_map, option_or}
 use Rattle.vk_ast.specs.Units.{item_of}
 use Rattle.vk_rules.specs.Verdicts.{judged}
 use Rattle.vk_reading_rows.specs.Inner.Noted.{noted}
-use Rattle.vk_reading_rows.specs.Inner.Places.{place_among}
+use Rattle.vk_reading_rows.specs.Functions.{place_among}
 use Rattle.vk_reading_rows.proofs.functions.note_items.Given as goal
 
 abbrev pub invariant-loop-number : goal.invariant-loop-number

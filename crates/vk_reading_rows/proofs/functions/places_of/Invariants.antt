@@ -2,7 +2,7 @@ use Rattle.std.proofs.Common.{◌≡◌, ℕ, List, Some, take}
 use Rattle.std.specs.Option.{option_map}
 use Rattle.vk_reading_rows.specs.Objects.{subjects_of}
 use Rattle.vk_reading_rows.specs.Inner.Noted.{noted}
-use Rattle.vk_reading_rows.specs.Inner.Places.{first_place}
+use Rattle.vk_reading_rows.specs.Functions.{first_place}
 use Rattle.vk_reading_rows.proofs.functions.places_of.Given as goal
 
 abbrev pub invariant-loop-number : goal.invariant-loop-number
