@@ -9,6 +9,8 @@ mod failing;
 #[cfg(test)]
 mod functions;
 #[cfg(test)]
+mod guards;
+#[cfg(test)]
 mod memory;
 #[cfg(test)]
 mod numbers;

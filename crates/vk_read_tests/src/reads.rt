@@ -58,15 +58,15 @@ pub(crate) fn end_of(end: Result<Reading, RunFail>) -> &'static str {
     }
 }
 
-// What a program prints, each number behind a blank, and how it ends.
-fn reading_of(alloc: Global, row: &Row) -> Result<Vec<u8>, Memory> {
+/// What a program prints, each number with a blank behind it, and how it ends.
+pub(crate) fn reading_of(alloc: Global, texts: &[&str], turns: u32) -> Result<Vec<u8>, Memory> {
     let mut text = Vec::new(alloc);
-    let Some(units) = units_of(alloc, row.units)? else {
+    let Some(units) = units_of(alloc, texts)? else {
         text.extend_from_slice(b"refused")?;
         return Ok(text);
     };
     let mut sink = MemSink::new(alloc, &[])?;
-    let end = read_program(alloc, &units, row.turns, &mut sink);
+    let end = read_program(alloc, &units, turns, &mut sink);
     for byte in sink.bytes() {
         text.push(if *byte == b'\n' { b' ' } else { *byte })?;
     }
@@ -77,7 +77,7 @@ fn reading_of(alloc: Global, row: &Row) -> Result<Vec<u8>, Memory> {
 /// Compares what programs print and how they end with what is wanted.
 pub(crate) fn compare(rt: &impl Abort, alloc: Global, rows: &[Row]) -> Result<(), Fail> {
     for (number, row) in rows.iter().enumerate() {
-        let found = reading_of(alloc, row)?;
+        let found = reading_of(alloc, row.units, row.turns)?;
         assert!(rt; found.as_slice() == row.want.as_bytes(), "{number} {found:?}");
     }
     Ok(())

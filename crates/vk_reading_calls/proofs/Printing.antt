@@ -29,12 +29,15 @@ module _ (arrays : List Array) (rows : List Row) (a b : SinkState) (d : Datum) (
 
   pub does_print : (a.tells ≡ true → b.bytes ≡ a.bytes ++ line_of z) → Does arrays (run_of rows a) (print_first (d ∷ [])) (run_of rows b) (Ok Nothing)
   does_print put = record {
-    ends = λ start w s. (refl, record {
-      rows = s.rows;
-      memory = s.memory;
-      text = λ t. let told = sym stays.tells ∙ t in
-          grown_by start w (line_of z) s told (put told) ∙ ap (λ (l : List ℕ). start ++ l) (sym (text_more w.events z) ∙ ap (λ (n : ℤ). text_of (w.events ++ printed n ∷ [])) number);
-    });
+    ends = λ start w s. (
+      refl,
+      record {
+        rows = s.rows;
+        memory = s.memory;
+        text = λ t. let told = sym stays.tells ∙ t in
+            grown_by start w (line_of z) s told (put told) ∙ ap (λ (l : List ℕ). start ++ l) (sym (text_more w.events z) ∙ ap (λ (n : ℤ). text_of (w.events ++ printed n ∷ [])) number);
+      },
+    );
     stays = stays;
     rise = tt;
   }
@@ -42,14 +45,16 @@ module _ (arrays : List Array) (rows : List Row) (a b : SinkState) (d : Datum) (
   pub fails_print : (fail : RunFail) → (a.tells ≡ true → GrowsWithin a.bytes b.bytes (line_of z)) → (fail ≡ Write → Rose a.faults b.faults) →
       Does arrays (run_of rows a) (print_first (d ∷ [])) (run_of rows b) (Err (Failed fail))
   fails_print fail put risen = record {
-    ends = λ start w s. record { front = λ t. let told = sym stays.tells ∙ t in
-        record {
-          front = text_of w.events ++ (put told).front;
-          rest = (put told).rest;
-          parts = ap (λ (n : ℤ). text_of (w.events ++ printed n ∷ [])) (sym number) ∙ text_more w.events z ∙ ap (λ (l : List ℕ). text_of w.events ++ l) (put told).parts
-              ∙ sym (append_assoc (text_of w.events) (put told).front (put told).rest);
-          grown = grown_by start w (put told).front s told (put told).grown;
-        } };
+    ends = λ start w s. record {
+      front = λ t. let told = sym stays.tells ∙ t in
+          record {
+            front = text_of w.events ++ (put told).front;
+            rest = (put told).rest;
+            parts = ap (λ (n : ℤ). text_of (w.events ++ printed n ∷ [])) (sym number) ∙ text_more w.events z ∙ ap (λ (l : List ℕ). text_of w.events ++ l) (put told).parts
+                ∙ sym (append_assoc (text_of w.events) (put told).front (put told).rest);
+            grown = grown_by start w (put told).front s told (put told).grown;
+          };
+    };
     stays = stays;
     rise = by fail risen;
   }

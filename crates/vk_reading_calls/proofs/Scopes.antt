@@ -75,7 +75,7 @@ file_is : (texts : List (List ℕ)) (items : List Item) (first : List (Option �
     file_seen texts (take count items) first ≡ file_meaning texts (take count (map item_of items))
 file_is texts items first count are =
     let meant : file_seen texts (take count items) first ≡ file_meaning texts (map item_of (take count items)) =
-        λ i id. cond (is_print texts id) (Some printer) (declared_meaning (front_declared items first count are id i)) in
+    λ i id. cond (is_print texts id) (Some printer) (declared_meaning (front_declared items first count are id i)) in
     meant ∙ ap (file_meaning texts) (front_seen count items)
 
 -- the point at which the body of a function begins that stands behind so many items

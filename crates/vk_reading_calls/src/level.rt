@@ -192,8 +192,11 @@ impl<O: Sink, F: Functions<O>> Functions<O> for Level<F> {
 }
 
 type Two<F> = Level<Level<F>>;
+
 type Four<F> = Two<Two<F>>;
+
 type Eight<F> = Four<Four<F>>;
+
 type Sixteen<F> = Eight<Eight<F>>;
 
 fn two<F>(below: F) -> Two<F> {

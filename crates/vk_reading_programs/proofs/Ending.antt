@@ -27,14 +27,20 @@ use Rattle.vk_reading_programs.specs.Prepared.{answer_of}
 module _ (units : List Subject) (turns : ℕ) (before : SinkState) (now : Run) (stays : Stays before now.out) where
   answers : (v : Value) (r : Result Held Halt) → reading units turns ≡ v → IsEnd (arrays_of units) before.bytes v now r → IsRise before.faults now.out.faults r →
       ReadsProgram units turns before now.out (answer_of r)
-  answers (got d w) (Ok h) e ends rise = (record {
-    end_is = sym (ap (λ (u : Value). end_of (stop_of u)) e);
-    text = λ t. ends.1.text (stays.tells ∙ t) ∙ sym (ap (λ (u : Value). before.bytes ++ reading_text u) e);
-  }, stays)
-  answers (halts x w) (Err (Halted stop)) e ends rise = (record {
-    end_is = sym (ap (λ (u : Value). end_of (stop_of u)) e ∙ ap (λ (y : Stop). end_of (Some y)) ends.0);
-    text = λ t. ends.1.text (stays.tells ∙ t) ∙ sym (ap (λ (u : Value). before.bytes ++ reading_text u) e);
-  }, stays)
+  answers (got d w) (Ok h) e ends rise = (
+    record {
+      end_is = sym (ap (λ (u : Value). end_of (stop_of u)) e);
+      text = λ t. ends.1.text (stays.tells ∙ t) ∙ sym (ap (λ (u : Value). before.bytes ++ reading_text u) e);
+    },
+    stays,
+  )
+  answers (halts x w) (Err (Halted stop)) e ends rise = (
+    record {
+      end_is = sym (ap (λ (u : Value). end_of (stop_of u)) e ∙ ap (λ (y : Stop). end_of (Some y)) ends.0);
+      text = λ t. ends.1.text (stays.tells ∙ t) ∙ sym (ap (λ (u : Value). before.bytes ++ reading_text u) e);
+    },
+    stays,
+  )
   answers (got d w) (Err (Failed Write)) e ends rise = (rise, (λ t. subst (λ (u : Value). GrowsWithin before.bytes now.out.bytes (reading_text u)) (sym e) (ends.front (stays.tells ∙ t))), stays)
   answers (halts x w) (Err (Failed Write)) e ends rise = (rise, (λ t. subst (λ (u : Value). GrowsWithin before.bytes now.out.bytes (reading_text u)) (sym e) (ends.front (stays.tells ∙ t))), stays)
   answers (got d w) (Err (Failed Memory)) e ends rise = ((λ t. subst (λ (u : Value). GrowsWithin before.bytes now.out.bytes (reading_text u)) (sym e) (ends.front (stays.tells ∙ t))), stays)

@@ -39,7 +39,7 @@ one_item_placed v p f xs i x below is start old new e n =
     let so_far = position p (map v (take i xs)) in
     let here = cond (p (v x)) (Some i) None in
     let whole : position p (map v (take (i + 1) xs)) ≡ option_or so_far here =
-        ap (position p) (seen_more v xs i x below is) ∙ position_more p (map v (take i xs)) (v x) ∙ ap (λ (k : ℕ). option_or so_far (cond (p (v x)) (Some k) None)) (seen_count v xs i x below is) in
+    ap (position p) (seen_more v xs i x below is) ∙ position_more p (map v (take i xs)) (v x) ∙ ap (λ (k : ℕ). option_or so_far (cond (p (v x)) (Some k) None)) (seen_count v xs i x below is) in
     n ∙ ap (λ (o : Option (Option FunctionPlace)). option_or o (cond (p (v x)) (Some (Some (f i))) None)) e
     ∙ or_assoc start (option_map Some (option_map f so_far)) (cond (p (v x)) (Some (Some (f i))) None)
     ∙ ap (option_or start) (sym (ap (λ (o : Option ℕ). option_map Some (option_map f o)) whole ∙ ap (option_map Some) (map_or f so_far here) ∙ map_or Some (option_map f so_far) (option_map f here)

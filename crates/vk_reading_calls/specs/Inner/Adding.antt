@@ -36,9 +36,11 @@ module _ (units : List Subject) (turns : ℕ) where
   adds_in calls h d id ds = by_name calls h (is_print d.unit.texts id) (text_of d.unit.texts id) ds
 
   pub adds_defined : (calls : Calls) → ((text : List ℕ) (ds : List Datum) → Adds (calls text ds)) → (d : Definition) (ds : List Datum) → Adds (called units turns calls d ds)
-  adds_defined calls h d ds = record { adds = λ w.
-      let s : State = record { variables = first_variables ds; world = w } in
-      first_trans ((adds_run (context_of units turns calls d) (adds_in calls h d) (first_point d) d.body).adds s) (same_world d.function.result (run (context_of units turns calls d) (first_point d) d.body s)) }
+  adds_defined calls h d ds = record {
+    adds = λ w.
+        let s : State = record { variables = first_variables ds; world = w } in
+        first_trans ((adds_run (context_of units turns calls d) (adds_in calls h d) (first_point d) d.body).adds s) (same_world d.function.result (run (context_of units turns calls d) (first_point d) d.body s));
+  }
 
   adds_called : (calls : Calls) → ((text : List ℕ) (ds : List Datum) → Adds (calls text ds)) → (d : Option Definition) (ds : List Datum) → Adds (called_where_defined units turns calls d ds)
   adds_called calls h None ds = adds_given nothing

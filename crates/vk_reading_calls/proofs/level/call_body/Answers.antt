@@ -28,7 +28,7 @@ returns-in-Ok-run_stmt-clause-does g c =
     let file = c.place-file.result in
     let text = c.text.ensures ∙ ap (λ (names : List (List ℕ)). text_of names c.args.f.now.name) (c.with-scopes.ensures.names ∙ c.place-file.ensures.names) in
     let scope = first_scope unit.names.now unit.items.now unit.first.items (c.args.item + 1) file c.in-Ok.locals.bindings.items c.deref-2.result.now c.args.f.now.params.items
-        c.requires.unit.first c.place-file.ensures.names c.place-file.ensures.items c.place-file.ensures.first c.deref-2.ensures.value (c.in-Ok.ensures.scope file) in
+    c.requires.unit.first c.place-file.ensures.names c.place-file.ensures.items c.place-file.ensures.first c.deref-2.ensures.value (c.in-Ok.ensures.scope file) in
     does_given (units_in program) program.turns calls d _ _ c.in-Ok.locals.values.items c.args.arguments.now c.run_stmt.new.locals.values.items _ _
     (context_is (units_in program) program.turns calls d c.deref.result.now unit.numbers.items c.text.result.now c.deref.ensures.value c.requires.unit.numbers text)
     (ap (λ (s : Scope). record { scope = s; shares = true; loops = 0 }) scope) c.in-Ok.ensures.values c.in-Ok-run_stmt.flow c.given_by.result c.given_by.ensures.value (c.in-Ok-run_stmt.ensures.acts 0)
@@ -42,7 +42,7 @@ returns-clause-does g c =
     let file = c.place-file.result in
     let text = c.text.ensures ∙ ap (λ (names : List (List ℕ)). text_of names c.args.f.now.name) (c.with-scopes.ensures.names ∙ c.place-file.ensures.names) in
     let scope = first_scope unit.names.now unit.items.now unit.first.items (c.args.item + 1) file c.in-Ok.locals.bindings.items c.deref-2.result.now c.args.f.now.params.items
-        c.requires.unit.first c.place-file.ensures.names c.place-file.ensures.items c.place-file.ensures.first c.deref-2.ensures.value (c.in-Ok.ensures.scope file) in
+    c.requires.unit.first c.place-file.ensures.names c.place-file.ensures.items c.place-file.ensures.first c.deref-2.ensures.value (c.in-Ok.ensures.scope file) in
     does_halt (units_in program) program.turns calls d _ _ c.in-Ok.locals.values.items c.args.arguments.now c.run_stmt.new.locals.values.items _ _
     (context_is (units_in program) program.turns calls d c.deref.result.now unit.numbers.items c.text.result.now c.deref.ensures.value c.requires.unit.numbers text)
     (ap (λ (s : Scope). record { scope = s; shares = true; loops = 0 }) scope) c.in-Ok.ensures.values c.in-Err.halt (c.in-Err.ensures.acts 0)
