@@ -43,7 +43,9 @@ fn program(alloc: Global, other: &str) -> Result<String, Memory> {
     add_names(alloc, &mut text, "g", 0, 1025)?;
     text.push_str(";\nint h(")?;
     add_names(alloc, &mut text, "int p", 0, 64)?;
-    text.push_str(") { return p0 + p63; }\nint main(void) {\n    g0 = 7; g127 = 20; g1024 = 100;\n    #pragma omp simd\n")?;
+    text.push_str(
+        ") { return p0 + p63; }\nint main(void) {\n    g0 = 7; g127 = 20; g1024 = 100;\n    #pragma omp simd\n",
+    )?;
     text.push_str("    for (int i = 0; i < 3; i++) s = ")?;
     add_calls(alloc, &mut text)?;
     text.push_str(other)?;

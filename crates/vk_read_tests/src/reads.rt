@@ -78,7 +78,10 @@ pub(crate) fn reading_of(alloc: Global, texts: &[&str], turns: u32) -> Result<Ve
 pub(crate) fn compare(rt: &impl Abort, alloc: Global, rows: &[Row]) -> Result<(), Fail> {
     for (number, row) in rows.iter().enumerate() {
         let found = reading_of(alloc, row.units, row.turns)?;
-        assert!(rt; found.as_slice() == row.want.as_bytes(), "{number} {found:?}");
+        assert!(rt;
+            found.as_slice() == row.want.as_bytes(),
+            "{number} {found:?}"
+        );
     }
     Ok(())
 }

@@ -25,12 +25,16 @@ static STOPS: [Row; 26] = [
         want: "divide",
     },
     Row {
-        units: &["int main(void) { int z = 0; int x = 1 || 1 / z; print(x); x = 0 && 1 / z; print(x); x = 1 ? 2 : 1 / z; print(x); return 0; }\n"],
+        units: &[
+            "int main(void) { int z = 0; int x = 1 || 1 / z; print(x); x = 0 && 1 / z; print(x); x = 1 ? 2 : 1 / z; print(x); return 0; }\n",
+        ],
         turns: 1000000,
         want: "1 0 2 done",
     },
     Row {
-        units: &["int a[3]; int main(void) { a[2] = 1; print(a[2]); a[3] = 1; print(9); return 0; }\n"],
+        units: &[
+            "int a[3]; int main(void) { a[2] = 1; print(a[2]); a[3] = 1; print(9); return 0; }\n",
+        ],
         turns: 1000000,
         want: "1 bounds",
     },
@@ -40,17 +44,23 @@ static STOPS: [Row; 26] = [
         want: "bounds",
     },
     Row {
-        units: &["int a[3], b; int main(void) { int i = 5; b = a[i - 3] + a[i]; print(1); return 0; }\n"],
+        units: &[
+            "int a[3], b; int main(void) { int i = 5; b = a[i - 3] + a[i]; print(1); return 0; }\n",
+        ],
         turns: 1000000,
         want: "bounds",
     },
     Row {
-        units: &["int a[3]; int g(const int *p) { return p[-1]; } int main(void) { print(g(a + 3)); print(g(a + 5)); return 0; }\n"],
+        units: &[
+            "int a[3]; int g(const int *p) { return p[-1]; } int main(void) { print(g(a + 3)); print(g(a + 5)); return 0; }\n",
+        ],
         turns: 1000000,
         want: "0 bounds",
     },
     Row {
-        units: &["int a[3]; void g(const int *p) { print(5); } int main(void) { g(a + 2147483647); g(a + 2147483647 + 1); return 0; }\n"],
+        units: &[
+            "int a[3]; void g(const int *p) { print(5); } int main(void) { g(a + 2147483647); g(a + 2147483647 + 1); return 0; }\n",
+        ],
         turns: 1000000,
         want: "5 bounds",
     },
@@ -80,12 +90,16 @@ static STOPS: [Row; 26] = [
         want: "1 2 done",
     },
     Row {
-        units: &["int main(void) { for (int i = 0; i < 2; i++) for (int j = 0; j < 2; j++) print(i * 10 + j); return 0; }\n"],
+        units: &[
+            "int main(void) { for (int i = 0; i < 2; i++) for (int j = 0; j < 2; j++) print(i * 10 + j); return 0; }\n",
+        ],
         turns: 2,
         want: "0 1 10 11 done",
     },
     Row {
-        units: &["int main(void) { for (int i = 0; i < 9; i++) { if (i == 1) continue; if (i == 2) break; print(i); } print(7); return 0; }\n"],
+        units: &[
+            "int main(void) { for (int i = 0; i < 9; i++) { if (i == 1) continue; if (i == 2) break; print(i); } print(7); return 0; }\n",
+        ],
         turns: 3,
         want: "0 7 done",
     },
@@ -95,22 +109,30 @@ static STOPS: [Row; 26] = [
         want: "4 done",
     },
     Row {
-        units: &["int f(int a) { return 10 / a; } int main(void) { print(f(2)); print(f(0) + 1); print(f(1)); return 0; }\n"],
+        units: &[
+            "int f(int a) { return 10 / a; } int main(void) { print(f(2)); print(f(0) + 1); print(f(1)); return 0; }\n",
+        ],
         turns: 1000000,
         want: "5 divide",
     },
     Row {
-        units: &["int t[2]; int z; int f(int a) { print(a); return a; } int main(void) { t[f(5)] = f(1) / z; return 0; }\n"],
+        units: &[
+            "int t[2]; int z; int f(int a) { print(a); return a; } int main(void) { t[f(5)] = f(1) / z; return 0; }\n",
+        ],
         turns: 1000000,
         want: "5 1 divide",
     },
     Row {
-        units: &["int t[2]; int f(int a) { print(a); return a; } int main(void) { t[f(5)] += f(1); return 0; }\n"],
+        units: &[
+            "int t[2]; int f(int a) { print(a); return a; } int main(void) { t[f(5)] += f(1); return 0; }\n",
+        ],
         turns: 1000000,
         want: "5 bounds",
     },
     Row {
-        units: &["int t[2]; int f(int a) { print(a); return a; } int main(void) { t[f(5)] = f(1); return 0; }\n"],
+        units: &[
+            "int t[2]; int f(int a) { print(a); return a; } int main(void) { t[f(5)] = f(1); return 0; }\n",
+        ],
         turns: 1000000,
         want: "5 1 bounds",
     },
@@ -130,7 +152,9 @@ static STOPS: [Row; 26] = [
         want: "0 divide",
     },
     Row {
-        units: &["int f(void) { int i = 0; while (i < 2) { i++; if (i == 2) return i / (i - 2); print(i); } return 0; } int main(void) { print(f()); return 0; }\n"],
+        units: &[
+            "int f(void) { int i = 0; while (i < 2) { i++; if (i == 2) return i / (i - 2); print(i); } return 0; } int main(void) { print(f()); return 0; }\n",
+        ],
         turns: 1000000,
         want: "1 divide",
     },
