@@ -1,23 +1,23 @@
 -- Statements only add to the events.
-use Rattle.std.proofs.Common.{ℕ, zero, suc, Bool, true, false, cond, List, [], ◌∷◌, ◌++◌, length, Option, Some, None, ℤ, pos, refl, sym, append-nil}
+use Rattle.std.proofs.Common.{ℕ, zero, suc, Bool, true, false, cond, List, [], ◌∷◌, length, Option, Some, None, pos, refl, sym, append-nil}
 use Rattle.vk_types.specs.declared.types.Ty.{Ty}
 use Rattle.vk_types.specs.Numbers.{wrap_number}
 use Rattle.vk_kinds.specs.declared.heads.CType.TheVariants.{Int}
 use Rattle.vk_ast.specs.declared.names.NameId.{NameId}
 use Rattle.vk_ast.specs.declared.expressions.BinOp.{BinOp}
 use Rattle.vk_ast.specs.declared.expressions.BinOp.TheVariants.{Lt}
-use Rattle.vk_ast.specs.Tree.{Tree, name, binary}
+use Rattle.vk_ast.specs.Tree.{Tree, binary}
 use Rattle.vk_ast.specs.Statements.{StmtTree, StmtTrees, empty, block, local, assign, value, if_only, if_else, while_loop, do_loop, for_loop, break_loop, continue_loop, return_value, simd, lost, no_stmts, more_stmts}
 use Rattle.vk_numbers.specs.Operators.{is_on, binary_number}
 use Rattle.vk_rules_book.specs.Scopes.{Scope, with_binding}
 use Rattle.vk_rules_book.specs.Typings.{typing_of}
 use Rattle.vk_meaning.specs.World.{Event, World, simd_loop, with_event}
-use Rattle.vk_meaning.specs.Data.{Datum, number, number_in, as_type, Value, got, halts, Action, loaded, stored}
+use Rattle.vk_meaning.specs.Data.{Datum, number, number_in, as_type, Value, got, halts, Action}
 use Rattle.vk_meaning.specs.Meaning.{world_of}
 use Rattle.vk_meaning.specs.Points.{Variable, Point, past, branch_point, head_point, block_point, behind, loops_in}
-use Rattle.vk_meaning.specs.Expressions.{Context, Variables, integer_type, both, answered, value_of, address_of}
+use Rattle.vk_meaning.specs.Expressions.{Context, Variables, integer_type, value_of}
 use Rattle.vk_meaning.specs.Guards.{guard_pairs, guard_holds}
-use Rattle.vk_meaning.specs.Statements.{State, at_world, with_variable, Outcome, fell, broke, continued, returned, stopped, Effect, Evaluation, on_value, with_evaluated, on_fell, then_do, branch, on_turn, turns, repeat, uncontinued, with_third, looped, assign_variable, evaluate, assigned, combined, assigned_by, variable_of, assignment_to, condition_of, initialised, declared, return_of, iterations, told, told_by, run, run_simd, run_all}
+use Rattle.vk_meaning.specs.Statements.{State, at_world, with_variable, Outcome, fell, broke, continued, returned, stopped, Effect, Evaluation, on_value, with_evaluated, on_fell, then_do, branch, on_turn, turns, repeat, uncontinued, with_third, looped, assign_variable, evaluate, combined, variable_of, assignment_to, condition_of, initialised, declared, return_of, iterations, told, told_by, run, run_simd, run_all}
 use Rattle.vk_reading.specs.Reading.{AreFirst}
 use Rattle.vk_reading_steps.specs.Runs.{Adds}
 use Rattle.vk_reading_steps.proofs.Adds.{first_trans, adds_then, adds_number, adds_given, adds_answered, adds_loaded, adds_stored, adds_value, adds_address}
@@ -131,8 +131,10 @@ module _ (c : Context) (calls : (id : NameId) (ds : List Datum) → Adds (c.call
   adds_initialised scope v (Some e) = adds_assign_variable v (adds_expression scope e)
 
   pub adds_declared : (scope : Scope) (t : Ty) (fixed : Bool) (id : NameId) (init : Option Tree) → AddsTo (declared c scope t fixed id init)
-  adds_declared scope t fixed id init = record { adds = λ s.
-      (adds_initialised (with_binding scope id (Int t) fixed) (record { number = length scope.inner; ctype = Int t }) init).adds (with_variable s (length scope.inner) (number (pos 0))) }
+  adds_declared scope t fixed id init = record {
+    adds = λ s.
+        (adds_initialised (with_binding scope id (Int t) fixed) (record { number = length scope.inner; ctype = Int t }) init).adds (with_variable s (length scope.inner) (number (pos 0)));
+  }
 
   values_return : (es : List Event) (v : Value) → AreFirst es (world_of v).events → AreFirst es (world_left (on_value v (λ d w. returned (as_type c.result d) w))).events
   values_return es (got d w) h = h

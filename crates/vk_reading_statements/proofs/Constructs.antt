@@ -1,6 +1,5 @@
 -- What the code does for the parts of a statement it does for the statement.
-use Rattle.std.proofs.Common.{◌≡◌, ℕ, zero, suc, ◌+◌, Bool, true, false, cond, List, Option, Some, None, Result, Ok, Err, refl, sym, ap, subst, ◌∙◌}
-use Rattle.std.proofs.lemmas.Bool.{false≢true}
+use Rattle.std.proofs.Common.{◌≡◌, ℕ, zero, suc, ◌+◌, Bool, true, false, cond, List, Option, Some, Result, Ok, Err, refl, sym, ap, subst}
 use Rattle.vk_types.specs.declared.types.Stop.TheVariants.{Turns}
 use Rattle.vk_ast.specs.declared.names.NameId.{NameId}
 use Rattle.vk_ast.specs.Tree.{Tree}
@@ -10,7 +9,7 @@ use Rattle.vk_rules_book.specs.Visits.{after}
 use Rattle.vk_meaning.specs.World.{Array}
 use Rattle.vk_meaning.specs.Data.{Datum}
 use Rattle.vk_meaning.specs.Points.{Point, past, branch_point, head_point, behind, loops_in}
-use Rattle.vk_meaning.specs.Expressions.{Context, Variables, value_of}
+use Rattle.vk_meaning.specs.Expressions.{Context, Variables}
 use Rattle.vk_meaning.specs.Statements.{Effect, Evaluation, fell, then_do, branch, turns, repeat, with_third, condition_of, told_by, run, run_simd, run_all}
 use Rattle.vk_reading.specs.declared.held.Held.{Held}
 use Rattle.vk_reading.specs.declared.held.Halt.{Halt}
@@ -18,10 +17,10 @@ use Rattle.vk_reading.specs.declared.held.Halt.TheVariants.{Halted}
 use Rattle.vk_reading_steps.specs.Runs.{Run, Adds}
 use Rattle.vk_reading_statements.specs.declared.flow.Flow.{Flow}
 use Rattle.vk_reading_statements.specs.declared.flow.Flow.TheVariants.{Fell, Broke, Continued, Returned}
-use Rattle.vk_reading_statements.specs.Flows.{is_jump, leaves_loop, left_by, behind_it, behind_turn, behind_body}
+use Rattle.vk_reading_statements.specs.Flows.{is_jump, leaves_loop, left_by, behind_it}
 use Rattle.vk_reading_statements.specs.Acts.{Acts, AddsTo, Leads, Decides}
 use Rattle.vk_reading_statements.specs.Loops.{test_in, turn_of}
-use Rattle.vk_reading_statements.proofs.AddsAll.{adds_fell, adds_branch, adds_turns, adds_repeat, adds_third, adds_expression, adds_condition, adds_told_by, adds_run, adds_run_all, adds_turn}
+use Rattle.vk_reading_statements.proofs.AddsAll.{adds_fell, adds_branch, adds_turns, adds_repeat, adds_condition, adds_told_by, adds_run, adds_run_all, adds_turn}
 use Rattle.vk_reading_statements.proofs.Flowing.{leads_then, acts_ended, then_leads, then_fails, turn_leads, turn_fails, body_leads, body_fails, jumps, goes_on, loop_left, turn_goes_on, body_left, third_goes_on, no_turns}
 
 -- the same with values that are the same
@@ -181,7 +180,7 @@ module _ (c : Context) (calls : (id : NameId) (ds : List Datum) → Adds (c.call
           → Acts arrays b vs (run_simd c p (for_loop l t first test third body)) n last r
       simd_run a d e =
           let told : Acts arrays b vs (head_of p first body test) k ws (Ok end) =
-              (then_leads (told_by c p (behind (head_point p) first) first test body) flow a).leads k ws (Ok end) (same_effect (told_first p first body test scope flow is) d) in
+          (then_leads (told_by c p (behind (head_point p) first) first test body) flow a).leads k ws (Ok end) (same_effect (told_first p first body test scope flow is) d) in
           (then_leads (rounds_of (behind (head_point p) first) (for_loop l t first test third body)) end told).leads n last r
           (same_effect (behind_first p first (for_loop l t first test third body) scope end (λ x. is (ends x))) e)
 
@@ -195,7 +194,7 @@ module _ (c : Context) (calls : (id : NameId) (ds : List Datum) → Adds (c.call
           → Acts arrays b vs (run_simd c p (for_loop l t first test third body)) k ws (Err x)
       simd_bound_halted {k = k} {ws = ws} scope flow is a d =
           let told : Acts arrays b vs (head_of p first body test) k ws (Err x) =
-              (then_leads (told_by c p (behind (head_point p) first) first test body) flow a).leads k ws (Err x) (same_effect (told_first p first body test scope flow is) d) in
+          (then_leads (told_by c p (behind (head_point p) first) first test body) flow a).leads k ws (Err x) (same_effect (told_first p first body test scope flow is) d) in
           then_fails (rounds_of (behind (head_point p) first) (for_loop l t first test third body)) (adds_rounds (behind (head_point p) first) (for_loop l t first test third body)) told
 
     -- ---- statements one after another

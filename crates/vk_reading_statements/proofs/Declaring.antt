@@ -1,36 +1,32 @@
 -- Declarations, assignments to variables, and the upper bounds of simd loops.
-use Rattle.std.proofs.Common.{◌≡◌, ℕ, Bool, true, false, List, [], ◌∷◌, ◌++◌, length, Option, Some, None, pos, Result, Ok, Err, refl, sym, ap, subst, ◌∙◌, append-nil}
+use Rattle.std.proofs.Common.{◌≡◌, ℕ, Bool, List, [], ◌∷◌, ◌++◌, Option, Some, None, Result, Ok, Err, refl, sym, ap, subst, ◌∙◌, append-nil}
 use Rattle.std.proofs.lemmas.Option.{none-some, same_Some}
 use Rattle.vk_types.specs.declared.types.Ty.{Ty}
 use Rattle.vk_types.specs.declared.types.Stop.{Stop}
 use Rattle.vk_types.specs.Numbers.{wrap_number}
-use Rattle.vk_kinds.specs.declared.heads.CType.TheVariants.{Int}
-use Rattle.vk_ast.specs.declared.names.NameId.{NameId}
 use Rattle.vk_ast.specs.declared.expressions.BinOp.{BinOp}
 use Rattle.vk_ast.specs.declared.expressions.BinOp.TheVariants.{Lt}
 use Rattle.vk_ast.specs.Tree.{Tree, binary}
 use Rattle.vk_ast.specs.Statements.{StmtTree, local}
-use Rattle.vk_rules_book.specs.Scopes.{Scope, with_binding}
+use Rattle.vk_rules_book.specs.Scopes.{Scope}
 use Rattle.vk_meaning.specs.World.{Array, World, Event, simd_loop, with_event}
-use Rattle.vk_meaning.specs.Data.{Datum, number, number_in, Value, got, halts}
+use Rattle.vk_meaning.specs.Data.{Datum, number_in, Value, got, halts}
 use Rattle.vk_meaning.specs.Points.{Variable, Point, branch_point}
 use Rattle.vk_meaning.specs.Expressions.{Context, Variables, with_datum, value_of}
 use Rattle.vk_meaning.specs.Guards.{guard_pairs, guard_holds}
-use Rattle.vk_meaning.specs.Statements.{Effect, Outcome, fell, stopped, at_world, with_variable, on_value, assign_variable, assignment_to, initialised, declared, iterations, told, told_by}
+use Rattle.vk_meaning.specs.Statements.{Effect, Outcome, fell, stopped, at_world, with_variable, on_value, assign_variable, assignment_to, iterations, told, told_by}
 use Rattle.vk_reading.specs.declared.held.Held.{Held}
 use Rattle.vk_reading.specs.declared.held.Halt.{Halt}
 use Rattle.vk_reading.specs.declared.held.Halt.TheVariants.{Halted, Failed}
-use Rattle.vk_reading_steps.specs.Runs.{Run, text_of, Stands, IsEnd, Does, Adds}
+use Rattle.vk_reading_steps.specs.Runs.{Run, text_of, Stands, IsEnd, Does}
 use Rattle.vk_reading_steps.specs.Settings.{variables_in}
 use Rattle.vk_reading_statements.specs.declared.flow.Flow.{Flow}
 use Rattle.vk_reading_statements.specs.declared.flow.Flow.TheVariants.{Fell}
 use Rattle.vk_reading_statements.specs.Acts.{IsOutcome, Acts}
 use Rattle.vk_reading_statements.specs.Assigned.{assigned_value}
 use Rattle.vk_reading_statements.specs.Loops.{upper_bound}
-use Rattle.vk_reading_statements.proofs.AddsAll.{adds_expression}
 use Rattle.vk_reading_statements.proofs.Fronts.{text_append, front_further, risen}
 use Rattle.vk_reading_statements.proofs.Flowing.{state_in, acts_ended}
-use Rattle.vk_reading.specs.Reading.{AreFirst}
 
 -- ---- variables
 

@@ -1,5 +1,5 @@
 -- One step after another: what the code does for each of them it does for both.
-use Rattle.std.proofs.Common.{◌≡◌, ℕ, zero, suc, Bool, true, false, cond, List, Result, Ok, Err, refl, sym, ap, subst, ◌∙◌}
+use Rattle.std.proofs.Common.{◌≡◌, ℕ, zero, Bool, true, false, cond, List, Result, Ok, Err, refl, sym, ap, subst, ◌∙◌}
 use Rattle.std.proofs.lemmas.Bool.{false≢true}
 use Rattle.vk_types.specs.declared.types.Stop.{Stop}
 use Rattle.vk_types.specs.declared.types.Stop.TheVariants.{Turns}
@@ -9,8 +9,6 @@ use Rattle.vk_meaning.specs.Data.{Datum, number_in, as_type, Value, got, halts}
 use Rattle.vk_kinds.specs.declared.heads.CType.{CType}
 use Rattle.vk_meaning.specs.Points.{Variable}
 use Rattle.vk_meaning.specs.Expressions.{with_datum}
-use Rattle.vk_meaning.specs.Meaning.{world_of}
-use Rattle.vk_meaning.specs.declared.reading.RunFail.{RunFail}
 use Rattle.vk_meaning.specs.declared.reading.RunFail.TheVariants.{Memory}
 use Rattle.vk_meaning.specs.Statements.{State, with_variable, assign_variable, evaluate, Outcome, fell, broke, continued, returned, stopped, Effect, Evaluation, on_value, with_evaluated, on_fell, then_do, branch, on_turn, turns, uncontinued, with_third}
 use Rattle.vk_reading.specs.declared.held.Held.{Held}
@@ -18,13 +16,13 @@ use Rattle.vk_reading.specs.declared.held.Halt.{Halt}
 use Rattle.vk_reading.specs.declared.held.Halt.TheVariants.{Halted, Failed}
 use Rattle.vk_reading.specs.Held.{datum_of}
 use Rattle.vk_reading.specs.Reading.{AreFirst}
-use Rattle.vk_reading_steps.specs.Runs.{Run, Stands, HasFront, IsEnd, Does}
+use Rattle.vk_reading_steps.specs.Runs.{Run, Stands, IsEnd, Does}
 use Rattle.vk_reading_steps.specs.Settings.{variables_in}
 use Rattle.vk_reading_steps.proofs.Steps.{stays_itself}
 use Rattle.vk_reading_statements.specs.declared.flow.Flow.{Flow}
 use Rattle.vk_reading_statements.specs.declared.flow.Flow.TheVariants.{Fell, Broke, Continued, Returned}
 use Rattle.vk_reading_statements.specs.Flows.{outcome_in, is_jump, leaves_loop, left_by, behind_it, behind_turn, behind_body}
-use Rattle.vk_reading_statements.specs.Acts.{world_left, EndsSo, IsOutcome, Acts, AddsTo, Leads, Chooses, Decides}
+use Rattle.vk_reading_statements.specs.Acts.{world_left, EndsSo, IsOutcome, Acts, AddsTo, Leads, Decides}
 use Rattle.vk_reading_statements.proofs.Fronts.{front_further, stands_front, stays_trans, risen_later, risen}
 use Rattle.vk_reading_statements.proofs.AddsAll.{first_itself, fell_adds, turn_adds, third_adds}
 
@@ -106,11 +104,13 @@ module _ {arrays : List Array} where
 
   module _ {b n : Run} {values : List Held} (e : Evaluation) where
     pub evaluated_leads : {h : Held} (next : Datum → Effect) → Does arrays b (e (variables_in values)) n (Ok h) → Leads arrays b values (with_evaluated e next) n values (next (datum_of h))
-    evaluated_leads {h = h} next d = record { leads = λ end last result k. record {
-      ends = λ start w s. goes end last result start (e (variables_in values) w) (d.ends start w s) (k.ends start);
-      stays = stays_trans d.stays k.stays;
-      rise = risen_later b.out.faults n.out.faults end.out.faults result d.stays.faults k.rise;
-    } }
+    evaluated_leads {h = h} next d = record {
+      leads = λ end last result k. record {
+        ends = λ start w s. goes end last result start (e (variables_in values) w) (d.ends start w s) (k.ends start);
+        stays = stays_trans d.stays k.stays;
+        rise = risen_later b.out.faults n.out.faults end.out.faults result d.stays.faults k.rise;
+      };
+    }
       where
         goes : (end : Run) (last : List Held) (result : Result Flow Halt) (start : List ℕ) (v : Value) → IsEnd arrays start v n (Ok h)
             → ((w : World) → Stands arrays start n w → IsOutcome arrays start (next (datum_of h) (state_in values w)) end last result)
@@ -155,13 +155,17 @@ module _ {arrays : List Array} where
 
     -- a condition
     pub decides_on : {h : Held} (on : Bool) → on ≡ is_on (number_in (datum_of h)) → Does arrays b (e (variables_in values)) n (Ok h) → Decides arrays b values e n (Ok on)
-    decides_on {h = h} on is d = record { chooses = λ first second p q.
-        subst (λ (t : Bool). Leads arrays b values (branch e first second) n values (cond t first second)) (sym is)
-        (evaluated_leads {h = h} (λ d. cond (is_on (number_in d)) first second) d) }
+    decides_on {h = h} on is d = record {
+      chooses = λ first second p q.
+          subst (λ (t : Bool). Leads arrays b values (branch e first second) n values (cond t first second)) (sym is)
+          (evaluated_leads {h = h} (λ d. cond (is_on (number_in d)) first second) d);
+    }
 
     pub decides_fail : {x : Halt} → Does arrays b (e (variables_in values)) n (Err x) → Decides arrays b values e n (Err x)
-    decides_fail {x = x} d = record { chooses = λ first second p q.
-        evaluated_fails values (λ d. cond (is_on (number_in d)) first second) (λ d. adds_either (is_on (number_in d)) p q) d }
+    decides_fail {x = x} d = record {
+      chooses = λ first second p q.
+          evaluated_fails values (λ d. cond (is_on (number_in d)) first second) (λ d. adds_either (is_on (number_in d)) p q) d;
+    }
 
   -- ---- statements
 
@@ -169,12 +173,14 @@ module _ {arrays : List Array} where
   flows : {b n : Run} {old new : List Held} {first : Effect} (flow : Flow) (whole rest : Effect) → Acts arrays b old first n new (Ok flow)
       → ((o : Outcome) (w : World) (s : State) → o ≡ first s → o ≡ outcome_in (Ok flow) (variables_in new) w → whole s ≡ rest (state_in new w))
       → Leads arrays b old whole n new rest
-  flows {b = b} {n = n} {old = old} {new = new} {first = first} flow whole rest d k = record { leads = λ end last result r. record {
-    ends = λ start w s. let e = d.ends start w s in
-        subst (λ (o : Outcome). IsOutcome arrays start o end last result) (sym (k (first (state_in old w)) (world_left (first (state_in old w))) (state_in old w) refl e.is)) (r.ends start (world_left (first (state_in old w))) e.stands);
-    stays = stays_trans d.stays r.stays;
-    rise = risen_later b.out.faults n.out.faults end.out.faults result d.stays.faults r.rise;
-  } }
+  flows {b = b} {n = n} {old = old} {new = new} {first = first} flow whole rest d k = record {
+    leads = λ end last result r. record {
+      ends = λ start w s. let e = d.ends start w s in
+          subst (λ (o : Outcome). IsOutcome arrays start o end last result) (sym (k (first (state_in old w)) (world_left (first (state_in old w))) (state_in old w) refl e.is)) (r.ends start (world_left (first (state_in old w))) e.stands);
+      stays = stays_trans d.stays r.stays;
+      rise = risen_later b.out.faults n.out.faults end.out.faults result d.stays.faults r.rise;
+    };
+  }
 
   pub then_leads : {b n : Run} {old new : List Held} {first : Effect} (second : Effect) (flow : Flow) → Acts arrays b old first n new (Ok flow) → Leads arrays b old (then_do first second) n new (behind_it flow second)
   then_leads {new = new} {first = first} second flow d = flows flow (then_do first second) (behind_it flow second) d (λ o w s is e. ap (λ x. on_fell x second) (sym is ∙ e) ∙ told flow w)

@@ -1,5 +1,5 @@
 -- Fronts of texts, and counts of faults.
-use Rattle.std.proofs.Common.{◌≡◌, ℕ, ◌≤◌, List, [], ◌++◌, Result, Ok, Err, refl, sym, ap, ◌∙◌, append_assoc, append-nil, flat_map, arith}
+use Rattle.std.proofs.Common.{◌≡◌, ℕ, ◌≤◌, List, [], ◌++◌, Result, Ok, Err, sym, ap, ◌∙◌, append_assoc, append-nil, flat_map, arith}
 use Rattle.std.proofs.lemmas.List.Concat.{flat_map-append}
 use Rattle.std.proofs.lemmas.List.Elements.{filter_map-append}
 use Rattle.vk_io.specs.Counts.{Rose}
@@ -7,7 +7,6 @@ use Rattle.vk_io.specs.Sink.{SinkState, Stays}
 use Rattle.vk_meaning.specs.World.{Array, Event, World}
 use Rattle.vk_meaning.specs.Meaning.{line_of, printed_number}
 use Rattle.vk_meaning.specs.declared.reading.RunFail.TheVariants.{Write, Memory}
-use Rattle.vk_reading.specs.declared.held.Held.{Held}
 use Rattle.vk_reading.specs.declared.held.Halt.{Halt}
 use Rattle.vk_reading.specs.declared.held.Halt.TheVariants.{Halted, Failed}
 use Rattle.vk_reading.specs.Reading.{AreFirst}

@@ -1,11 +1,11 @@
 -- Statements one after another, as the code's list has them.
-use Rattle.std.proofs.Common.{◌≡◌, ℕ, suc, ◌+◌, ◌<◌, ◌≤◌, Bool, true, false, List, [], ◌∷◌, ◌++◌, length, take, drop, get_or, add-one, Result, Ok, Err, refl, sym, ap, subst, ◌∙◌}
+use Rattle.std.proofs.Common.{◌≡◌, ℕ, suc, ◌+◌, ◌<◌, ◌≤◌, true, false, List, [], ◌∷◌, ◌++◌, length, take, drop, get_or, add-one, Ok, Err, refl, sym, ap, subst, ◌∙◌}
 use Rattle.std.proofs.Math.Seq.{drop-cons}
 use Rattle.std.proofs.lemmas.List.{append_assoc, drop_all, take_more, take-append-drop}
 use Rattle.std.proofs.lemmas.Bool.{false≢true}
 use Rattle.vk_ast.specs.declared.names.NameId.{NameId}
 use Rattle.vk_ast.specs.declared.statements.Stmt.{Stmt}
-use Rattle.vk_ast.specs.Statements.{StmtTrees, no_stmts, more_stmts, stmt_of, list_stmts}
+use Rattle.vk_ast.specs.Statements.{StmtTrees, more_stmts, stmt_of, list_stmts}
 use Rattle.vk_rules_book.specs.Scopes.{Scope}
 use Rattle.vk_rules_book.specs.Visits.{after, after_all}
 use Rattle.vk_meaning.specs.World.{Array}

@@ -1,5 +1,5 @@
 -- Branches, loops and blocks as the code's enum has them.
-use Rattle.std.proofs.Common.{◌≡◌, ℕ, ◌+◌, Bool, true, false, List, Option, Some, Result, Ok, Err, refl, sym, ap, ◌∙◌}
+use Rattle.std.proofs.Common.{◌≡◌, ℕ, ◌+◌, Bool, true, false, List, Option, Some, Result, Ok, Err, sym, ap, ◌∙◌}
 use Rattle.vk_ast.specs.declared.names.NameId.{NameId}
 use Rattle.vk_ast.specs.declared.statements.Stmt.{Stmt}
 use Rattle.vk_ast.specs.declared.statements.StmtKind.{Held-StmtKind-If-2, None', Some'}
@@ -19,7 +19,7 @@ use Rattle.vk_reading_statements.specs.declared.flow.Flow.{Flow}
 use Rattle.vk_reading_statements.specs.declared.flow.Flow.TheVariants.{Fell}
 use Rattle.vk_reading_statements.specs.Flows.{behind_it}
 use Rattle.vk_reading_statements.specs.Acts.{Acts, Decides}
-use Rattle.vk_reading_statements.proofs.Constructs.{same_effect, only_taken, else_taken, none_taken, only_halted, else_halted, rounds_of, for_run, first_halted, simd_run, simd_first_halted, simd_bound_halted}
+use Rattle.vk_reading_statements.proofs.Constructs.{same_effect, only_taken, else_taken, only_halted, else_halted, rounds_of, for_run, first_halted, simd_run, simd_first_halted, simd_bound_halted}
 
 -- the point behind the first part of a loop that stands at this one
 abbrev pub point_behind : Point → Scope → StmtTree → Point

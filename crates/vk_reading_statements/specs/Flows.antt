@@ -1,5 +1,5 @@
 -- How statements end, as the code tells it.
-use Rattle.std.specs.Prelude.{Bool, true, false, Option, Some, None, Result, Ok, Err}
+use Rattle.std.specs.Prelude.{Bool, true, false, Result, Ok, Err}
 use Rattle.vk_types.specs.declared.types.Stop.{Stop}
 use Rattle.vk_meaning.specs.World.{World}
 use Rattle.vk_meaning.specs.Expressions.{Variables}

@@ -357,7 +357,16 @@ fn assign_to_variable<O: Sink, C: Calls<O>>(
         (run_of cells.new.rows.items (O.state out.new)) locals.new.values.items result }
 {
     let held = assigned_value(
-        calls, cells, out, body, locals, outer, variable.number, op, target, e,
+        calls,
+        cells,
+        out,
+        body,
+        locals,
+        outer,
+        variable.number,
+        op,
+        target,
+        e,
     )?;
     match assign_variable(locals, variable, held) {
         Ok(()) => Ok(Flow::Fell),

@@ -43,7 +43,7 @@ pub fn run_stmt<O: Sink, C: Calls<O>>(
     ensures visible { OnOk result (take (length locals.old.bindings.items) locals.new.bindings.items ≡ locals.old.bindings.items) }
     ensures scope { IfOk result (λ flow. flow ≡ Flow.Fell → scope_in body.now locals.new outer ≡ after shares (scope_in body.now locals.old outer) (stmt_of s.now)) }
     ensures acts { (loops : ℕ) → Acts (C.arrays calls.now) (run_of cells.old.rows.items (O.state out.old)) locals.old.values.items
-         (run (context_at (C.arrays calls.now) (C.call calls.now) body.now) (point_in body.now locals.old outer shares loops) (stmt_of s.now))
+        (run (context_at (C.arrays calls.now) (C.call calls.now) body.now) (point_in body.now locals.old outer shares loops) (stmt_of s.now))
         (run_of cells.new.rows.items (O.state out.new)) locals.new.values.items result }
 {
     match &s.kind {
@@ -63,7 +63,9 @@ pub fn run_stmt<O: Sink, C: Calls<O>>(
             };
             run_local(calls, cells, out, body, locals, outer, binding, init)
         }
-        StmtKind::Assign(op, target, e) => run_assign(calls, cells, out, body, locals, outer, *op, target, e),
+        StmtKind::Assign(op, target, e) => run_assign(
+            calls, cells, out, body, locals, outer, *op, target, e,
+        ),
         StmtKind::Value(e) => run_value(calls, cells, out, body, locals, outer, e),
         StmtKind::If(e, first, second) => {
             if holds(calls, cells, out, body, locals, outer, e)? {
@@ -107,7 +109,7 @@ fn run_simd<O: Sink, C: Calls<O>>(
     ensures sound { IfOk result IsSound }
     ensures same { OnOk result (locals.new.bindings.items ≡ locals.old.bindings.items) }
     ensures acts { (loops : ℕ) → Acts (C.arrays calls.now) (run_of cells.old.rows.items (O.state out.old)) locals.old.values.items
-         (run_simd (context_at (C.arrays calls.now) (C.call calls.now) body.now) (point_in body.now locals.old (length locals.old.bindings.items) false loops) (stmt_of s.now))
+        (run_simd (context_at (C.arrays calls.now) (C.call calls.now) body.now) (point_in body.now locals.old (length locals.old.bindings.items) false loops) (stmt_of s.now))
         (run_of cells.new.rows.items (O.state out.new)) locals.new.values.items result }
 {
     match &s.kind {
@@ -143,7 +145,7 @@ fn run_rounds<O: Sink, C: Calls<O>>(
     ensures sound { IfOk result IsSound }
     ensures same { OnOk result (locals.new.bindings.items ≡ locals.old.bindings.items) }
     ensures acts { (loops : ℕ) → Acts (C.arrays calls.now) (run_of cells.old.rows.items (O.state out.old)) locals.old.values.items
-         (behind_it flow (repeat body.now.setting.turns (condition_of (context_at (C.arrays calls.now) (C.call calls.now) body.now) (scope_in body.now locals.old outer) (test_in (stmt_of s.now)))
+        (behind_it flow (repeat body.now.setting.turns (condition_of (context_at (C.arrays calls.now) (C.call calls.now) body.now) (scope_in body.now locals.old outer) (test_in (stmt_of s.now)))
         (turn_of (context_at (C.arrays calls.now) (C.call calls.now) body.now) (point_in body.now locals.old outer false loops) (stmt_of s.now))))
         (run_of cells.new.rows.items (O.state out.new)) locals.new.values.items result }
 {
@@ -171,7 +173,7 @@ fn run_while<O: Sink, C: Calls<O>>(
     ensures sound { IfOk result IsSound }
     ensures same { OnOk result (locals.new.bindings.items ≡ locals.old.bindings.items) }
     ensures acts { (loops : ℕ) → Acts (C.arrays calls.now) (run_of cells.old.rows.items (O.state out.old)) locals.old.values.items
-         (repeat body.now.setting.turns (condition_of (context_at (C.arrays calls.now) (C.call calls.now) body.now) (scope_in body.now locals.old outer) (test_in (stmt_of s.now)))
+        (repeat body.now.setting.turns (condition_of (context_at (C.arrays calls.now) (C.call calls.now) body.now) (scope_in body.now locals.old outer) (test_in (stmt_of s.now)))
         (turn_of (context_at (C.arrays calls.now) (C.call calls.now) body.now) (point_in body.now locals.old outer false loops) (stmt_of s.now)))
         (run_of cells.new.rows.items (O.state out.new)) locals.new.values.items result }
 {
@@ -199,7 +201,7 @@ fn run_turns<O: Sink, C: Calls<O>>(
     ensures sound { IfOk result IsSound }
     ensures same { OnOk result (locals.new.bindings.items ≡ locals.old.bindings.items) }
     ensures acts { (loops : ℕ) → Acts (C.arrays calls.now) (run_of cells.old.rows.items (O.state out.old)) locals.old.values.items
-         (turns body.now.setting.turns (condition_of (context_at (C.arrays calls.now) (C.call calls.now) body.now) (scope_in body.now locals.old outer) (test_in (stmt_of s.now)))
+        (turns body.now.setting.turns (condition_of (context_at (C.arrays calls.now) (C.call calls.now) body.now) (scope_in body.now locals.old outer) (test_in (stmt_of s.now)))
         (turn_of (context_at (C.arrays calls.now) (C.call calls.now) body.now) (point_in body.now locals.old outer false loops) (stmt_of s.now)))
         (run_of cells.new.rows.items (O.state out.new)) locals.new.values.items result }
 {
@@ -235,7 +237,7 @@ fn run_turn<O: Sink, C: Calls<O>>(
     ensures sound { IfOk result IsSound }
     ensures same { OnOk result (locals.new.bindings.items ≡ locals.old.bindings.items) }
     ensures acts { (loops : ℕ) → Acts (C.arrays calls.now) (run_of cells.old.rows.items (O.state out.old)) locals.old.values.items
-         (turn_of (context_at (C.arrays calls.now) (C.call calls.now) body.now) (point_in body.now locals.old outer false loops) (stmt_of s.now))
+        (turn_of (context_at (C.arrays calls.now) (C.call calls.now) body.now) (point_in body.now locals.old outer false loops) (stmt_of s.now))
         (run_of cells.new.rows.items (O.state out.new)) locals.new.values.items result }
 {
     match &s.kind {
@@ -270,7 +272,7 @@ fn run_apart<O: Sink, C: Calls<O>>(
     ensures sound { IfOk result IsSound }
     ensures same { OnOk result (locals.new.bindings.items ≡ locals.old.bindings.items) }
     ensures acts { (loops : ℕ) → Acts (C.arrays calls.now) (run_of cells.old.rows.items (O.state out.old)) locals.old.values.items
-         (run (context_at (C.arrays calls.now) (C.call calls.now) body.now) (point_in body.now locals.old outer false loops) (stmt_of s.now))
+        (run (context_at (C.arrays calls.now) (C.call calls.now) body.now) (point_in body.now locals.old outer false loops) (stmt_of s.now))
         (run_of cells.new.rows.items (O.state out.new)) locals.new.values.items result }
 {
     let mark = locals.bindings.len();
@@ -296,7 +298,7 @@ fn run_inside<O: Sink, C: Calls<O>>(
     ensures sound { IfOk result IsSound }
     ensures same { OnOk result (locals.new.bindings.items ≡ locals.old.bindings.items) }
     ensures acts { (loops : ℕ) → Acts (C.arrays calls.now) (run_of cells.old.rows.items (O.state out.old)) locals.old.values.items
-         (run (context_at (C.arrays calls.now) (C.call calls.now) body.now) (point_in body.now locals.old (length locals.old.bindings.items) false loops) (stmt_of s.now))
+        (run (context_at (C.arrays calls.now) (C.call calls.now) body.now) (point_in body.now locals.old (length locals.old.bindings.items) false loops) (stmt_of s.now))
         (run_of cells.new.rows.items (O.state out.new)) locals.new.values.items result }
 {
     let outer = locals.bindings.len();
@@ -320,7 +322,7 @@ fn run_block<O: Sink, C: Calls<O>>(
     ensures sound { IfOk result IsSound }
     ensures same { OnOk result (locals.new.bindings.items ≡ locals.old.bindings.items) }
     ensures acts { (loops : ℕ) → Acts (C.arrays calls.now) (run_of cells.old.rows.items (O.state out.old)) locals.old.values.items
-         (run_all (context_at (C.arrays calls.now) (C.call calls.now) body.now) (point_in body.now locals.old (length locals.old.bindings.items) false loops) (list_stmts ss.now))
+        (run_all (context_at (C.arrays calls.now) (C.call calls.now) body.now) (point_in body.now locals.old (length locals.old.bindings.items) false loops) (list_stmts ss.now))
         (run_of cells.new.rows.items (O.state out.new)) locals.new.values.items result }
 {
     let mark = locals.bindings.len();
@@ -348,7 +350,7 @@ fn run_all<O: Sink, C: Calls<O>>(
     ensures visible { OnOk result (take (length locals.old.bindings.items) locals.new.bindings.items ≡ locals.old.bindings.items) }
     ensures scope { IfOk result (λ flow. flow ≡ Flow.Fell → scope_in body.now locals.new outer ≡ after_all (scope_in body.now locals.old outer) (list_stmts ss.now)) }
     ensures acts { (loops : ℕ) → Acts (C.arrays calls.now) (run_of cells.old.rows.items (O.state out.old)) locals.old.values.items
-         (run_all (context_at (C.arrays calls.now) (C.call calls.now) body.now) (point_in body.now locals.old outer false loops) (list_stmts ss.now))
+        (run_all (context_at (C.arrays calls.now) (C.call calls.now) body.now) (point_in body.now locals.old outer false loops) (list_stmts ss.now))
         (run_of cells.new.rows.items (O.state out.new)) locals.new.values.items result }
 {
     for s in ss {

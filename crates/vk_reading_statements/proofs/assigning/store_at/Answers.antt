@@ -1,9 +1,8 @@
-use Rattle.std.proofs.Common.{◌≡◌, ℤ, List, sym, ap, ◌∙◌, rules}
+use Rattle.std.proofs.Common.{◌≡◌, ℤ, sym, ap, ◌∙◌, rules}
 use Rattle.std.proofs.lemmas.Int.{to_z-of_z}
 use mir.Val.{to_z, of_z}
 use mir.Syntax.{w32}
 use Rattle.vk_types.specs.Numbers.{number_of, wrap_number}
-use Rattle.vk_meaning.specs.World.{World}
 use Rattle.vk_meaning.specs.Data.{number_in, pointer, stored}
 use Rattle.vk_reading.specs.Cells.{memory_in}
 use Rattle.vk_reading.specs.Held.{datum_of}

@@ -1,10 +1,10 @@
-use Rattle.std.proofs.Common.{Option, None, Some, refl, ap, sym}
+use Rattle.std.proofs.Common.{Option, ap, sym}
 use Rattle.std.specs.Option.{option_map}
 use Rattle.vk_ast.specs.declared.expressions.Expr.{Expr}
 use Rattle.vk_ast.specs.Tree.{expr_of}
 use Rattle.vk_meaning.specs.Points.{Variable}
 use Rattle.vk_meaning.specs.Expressions.{value_of}
-use Rattle.vk_meaning.specs.Statements.{Evaluation, fell, initialised}
+use Rattle.vk_meaning.specs.Statements.{Evaluation, initialised}
 use Rattle.vk_reading_statements.specs.Places.{context_at, scope_in}
 use Rattle.vk_reading_statements.proofs.Constructs.{same_effect}
 use Rattle.vk_reading_statements.proofs.Declaring.{acts_fell}

@@ -2,7 +2,6 @@ use Rattle.std.proofs.Common.{◌≡◌, ◌++◌, ◌∷◌, [], length, ap, �
 use Rattle.std.specs.Option.{option_map}
 use Rattle.vk_ast.specs.Tree.{expr_of}
 use Rattle.vk_kinds.specs.declared.heads.CType.{CType}
-use Rattle.vk_rules_book.specs.declared.contexts.Binding.{Binding}
 use Rattle.vk_rules_names.specs.Seen.{scope_at}
 use Rattle.vk_meaning.specs.Statements.{initialised}
 use Rattle.vk_reading_statements.specs.Places.{context_at, scope_in}

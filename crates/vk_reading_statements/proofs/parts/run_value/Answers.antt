@@ -1,8 +1,6 @@
 use Rattle.vk_ast.specs.Tree.{expr_of}
-use Rattle.vk_meaning.specs.Data.{Datum}
 use Rattle.vk_meaning.specs.Expressions.{value_of}
-use Rattle.vk_meaning.specs.Statements.{Evaluation, Effect, fell}
-use Rattle.vk_reading_statements.specs.declared.flow.Flow.TheVariants.{Fell}
+use Rattle.vk_meaning.specs.Statements.{Evaluation, fell}
 use Rattle.vk_reading_statements.specs.Places.{context_at, scope_in}
 use Rattle.vk_reading_statements.proofs.AddsAll.{adds_fell}
 use Rattle.vk_reading_statements.proofs.Exits.{exit_acts}

@@ -1,4 +1,4 @@
-use Rattle.std.proofs.Common.{Option, Some, ap, sym, ◌∙◌}
+use Rattle.std.proofs.Common.{Option, ap, sym, ◌∙◌}
 use Rattle.std.specs.Option.{option_map}
 use Rattle.vk_ast.specs.declared.expressions.Expr.{Expr}
 use Rattle.vk_ast.specs.declared.statements.StmtKind.{StmtKind}

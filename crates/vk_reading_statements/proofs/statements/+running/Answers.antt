@@ -275,8 +275,8 @@ run_turns-loop-left-preserved g t c = record {
   held = c.in_ok-flow.ensures.held;
   same = c.in_ok-flow.ensures.same ∙ c.loop-left.invariant.same;
   leads = λ loops.
-    let up : c.loop-left.left ≡ suc (c.loop-left.left - 1) = omega (arith, c.loop-left-test.true) in
-    let so_far = same_rest (ap (λ (n : ℕ). turns n (condition_of (context_at (g.C.Calls.arrays c.args.calls.now) (g.C.Calls.call c.args.calls.now) c.args.body.now) (scope_in c.args.body.now c.args.locals.now c.args.outer) (test_in (stmt_of c.args.s.now))) (turn_of (context_at (g.C.Calls.arrays c.args.calls.now) (g.C.Calls.call c.args.calls.now) c.args.body.now) (point_in c.args.body.now c.args.locals.now c.args.outer false loops) (stmt_of c.args.s.now))) up) (c.loop-left.invariant.leads loops) in
+      let up : c.loop-left.left ≡ suc (c.loop-left.left - 1) = omega (arith, c.loop-left-test.true) in
+      let so_far = same_rest (ap (λ (n : ℕ). turns n (condition_of (context_at (g.C.Calls.arrays c.args.calls.now) (g.C.Calls.call c.args.calls.now) c.args.body.now) (scope_in c.args.body.now c.args.locals.now c.args.outer) (test_in (stmt_of c.args.s.now))) (turn_of (context_at (g.C.Calls.arrays c.args.calls.now) (g.C.Calls.call c.args.calls.now) c.args.body.now) (point_in c.args.body.now c.args.locals.now c.args.outer false loops) (stmt_of c.args.s.now))) up) (c.loop-left.invariant.leads loops) in
       test_on (context_at (g.C.Calls.arrays c.args.calls.now) (g.C.Calls.call c.args.calls.now) c.args.body.now) (g.met.C.Calls.adds c.args.calls.now) (c.loop-left.left - 1) (condition_of (context_at (g.C.Calls.arrays c.args.calls.now) (g.C.Calls.call c.args.calls.now) c.args.body.now) (scope_in c.args.body.now c.args.locals.now c.args.outer) (test_in (stmt_of c.args.s.now))) (turn_of (context_at (g.C.Calls.arrays c.args.calls.now) (g.C.Calls.call c.args.calls.now) c.args.body.now) (point_in c.args.body.now c.args.locals.now c.args.outer false loops) (stmt_of c.args.s.now)) (adds_condition (context_at (g.C.Calls.arrays c.args.calls.now) (g.C.Calls.call c.args.calls.now) c.args.body.now) (g.met.C.Calls.adds c.args.calls.now) (scope_in c.args.body.now c.args.locals.now c.args.outer) (test_in (stmt_of c.args.s.now))) (adds_turn (context_at (g.C.Calls.arrays c.args.calls.now) (g.C.Calls.call c.args.calls.now) c.args.body.now) (g.met.C.Calls.adds c.args.calls.now) (point_in c.args.body.now c.args.locals.now c.args.outer false loops) (stmt_of c.args.s.now)) so_far c.in_ok-flow.flow (same_effect (ap (λ (bs : List Binding). turn_of (context_at (g.C.Calls.arrays c.args.calls.now) (g.C.Calls.call c.args.calls.now) c.args.body.now) (record { scope = scope_at c.args.body.now.file bs c.args.outer; shares = false; loops = loops }) (stmt_of c.args.s.now)) c.loop-left.invariant.same) (c.in_ok-flow.ensures.acts loops)) (sym c.if-leaves_loop.ensures) c.in_ok-test.field-0 (same_test (ap (λ (bs : List Binding). condition_of (context_at (g.C.Calls.arrays c.args.calls.now) (g.C.Calls.call c.args.calls.now) c.args.body.now) (scope_at c.args.body.now.file bs c.args.outer) (test_in (stmt_of c.args.s.now))) (c.in_ok-flow.ensures.same ∙ c.loop-left.invariant.same)) c.in_ok-test.ensures.decides) (search rules);
 }
 

@@ -1,7 +1,6 @@
 use Rattle.std.proofs.Common.{◌≡◌, ℕ, length, take, drop, false}
 use Rattle.vk_ast.specs.Statements.{list_stmts, stmt_of}
 use Rattle.vk_rules_book.specs.Visits.{after_all}
-use Rattle.vk_meaning.specs.Expressions.{Context}
 use Rattle.vk_meaning.specs.Statements.{condition_of, run_all, turns}
 use Rattle.vk_reading.specs.Cells.{HaveWords}
 use Rattle.vk_reading_steps.specs.Runs.{run_of}
