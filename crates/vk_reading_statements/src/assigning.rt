@@ -64,9 +64,9 @@ pub fn assign<O: Sink, C: Calls<O>>(
         (assigned context s (address_of context scope values (expr_of target.now)) (value_of context scope values (expr_of e.now)))
         (run_of cells.new.rows.items (O.state out.new)) result }
 {
-    let p = address_of(calls, cells, out, place, target)?;
-    let n = evaluate(calls, cells, out, place, e)?;
-    store_at(cells, s, p, n)
+    let to = address_of(calls, cells, out, place, target)?;
+    let number = evaluate(calls, cells, out, place, e)?;
+    store_at(cells, s, to, number)
 }
 
 /// The operator on the old number and `e`, which have the types `s` and `t`.
