@@ -6,3 +6,5 @@ pub mod Rows
 pub mod More
 pub mod Canonical
 pub mod Numbering
+pub mod Placing
+pub mod Defining

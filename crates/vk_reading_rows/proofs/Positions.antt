@@ -27,7 +27,7 @@ module _ {X : Type 0} (p : X → Bool) where
   first_by true k n = ap (λ (b : Bool). cond b (Some 0) None) (above_zero n)
   first_by false k n = shift k n
 
-  position_first : (x : X) (xs : List X) → position p (x ∷ xs) ≡ cond (p x) (Some 0) (option_map suc (position p xs))
+  pub position_first : (x : X) (xs : List X) → position p (x ∷ xs) ≡ cond (p x) (Some 0) (option_map suc (position p xs))
   position_first x xs = first_by (p x) (position_or_len p xs) (length xs)
 
   end_by : (b : Bool) (n : ℕ) → option_map suc (cond b (Some n) None) ≡ cond b (Some (suc n)) None

@@ -1,3 +1,4 @@
 pub mod Objects
 pub mod Numbers
+pub mod Functions
 pub mod Inner

@@ -1,6 +1,6 @@
 // The first cells of arrays.
 
-ghost use Rattle.std.specs.Prelude.{◌≡◌, ◌≤◌, IfOk, None, Some, [], length, map, true, unwrap_or};
+ghost use Rattle.std.specs.Prelude.{◌≡◌, ◌≤◌, IfOk, IsTrue, None, Some, [], length, map, nat_le, true, unwrap_or};
 ghost use Rattle.std.specs.Option.{option_map};
 ghost use Rattle.vk_types.specs.Numbers.{IsCanonical, number_of, word_of, wrap_number};
 ghost use Rattle.vk_ast.specs.Tree.{expr_of};
@@ -114,6 +114,29 @@ fn rows_of(alloc: Global, objects: &[Placed]) -> Result<Vec<Row>, Memory>
         rows.push(row_of(alloc, placed)?)?;
     }
     Ok(rows)
+}
+
+// Whether an object is given no more elements than it has.
+fn is_given_within(placed: &Placed) -> bool
+    ensures { result ≡ nat_le (length (array_seen placed.now).given) (array_seen placed.now).length }
+{
+    let given = match &placed.object.init {
+        Some(es) => es.len(),
+        None => 0,
+    };
+    given <= length_of(placed.object) as usize
+}
+
+/// Whether no object is given more elements than it has. It is so of all units that are read from texts.
+pub fn are_given_within(objects: &[Placed]) -> bool
+    ensures { IsTrue result → AreGivenWithin (map array_seen objects.now) }
+{
+    for placed in objects {
+        if !is_given_within(placed) {
+            return false;
+        }
+    }
+    true
 }
 
 /// The cells as the program begins: the elements that are given, the others 0 (C17 6.7.9).

@@ -1,6 +1,6 @@
 // The arrays that the names of a unit are.
 
-ghost use Rattle.std.specs.Prelude.{◌≡◌, IfOk, List, ℕ, bytes_eq, map, position};
+ghost use Rattle.std.specs.Prelude.{◌≡◌, ◌++◌, ◌∷◌, [], IfOk, List, ℕ, bytes_eq, map, position};
 ghost use Rattle.vk_meaning.specs.World.{Array};
 ghost use Rattle.vk_meaning.specs.Programs.{array_number};
 ghost use Rattle.vk_reading_rows.specs.Numbers.{IsNumbering};
@@ -47,9 +47,9 @@ pub fn array_numbers<'a>(alloc: Global, objects: &[Placed<'a>]) -> Result<ArrayN
 }
 
 impl<'a> ArrayNumbers<'a> {
-    /// The number of the array of each name of a unit.
+    /// The number of the array of each name of a unit; the last one is that of names past the table.
     pub fn of_names(&self, alloc: Global, names: &NameTable) -> Result<Vec<u32>, Memory>
-        ensures { (arrays : List Array) → IsNumbering arrays self.now → IfOk result (λ list. list.items ≡ map (array_number arrays) names.now) }
+        ensures { (arrays : List Array) → IsNumbering arrays self.now → IfOk result (λ list. list.items ≡ map (array_number arrays) (names.now ++ [] ∷ [])) }
     {
         each_name(alloc, &self.by_text, self.count, names)
     }

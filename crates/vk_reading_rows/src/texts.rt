@@ -1,6 +1,6 @@
 // Tables of what was noted first under a text.
 
-ghost use Rattle.std.specs.Prelude.{◌≡◌, IfOk, List, None, OnOk, Some, ℕ, bytes_eq, cond, map, unwrap_or};
+ghost use Rattle.std.specs.Prelude.{◌≡◌, ◌++◌, ◌∷◌, [], IfOk, List, None, OnOk, Some, ℕ, bytes_eq, cond, map, unwrap_or};
 ghost use Rattle.std.specs.Option.{option_or};
 ghost use Rattle.vk_reading_rows.specs.Inner.Noted.{noted};
 
@@ -24,8 +24,8 @@ pub(crate) fn note<'a, T: Copy>(
     Ok(())
 }
 
-// What is noted under a text, else this.
-fn noted_or<T: Copy>(table: &HashMap<&[u8], T>, text: &[u8], other: T) -> T
+/// What is noted under a text, else this.
+pub(crate) fn noted_or<T: Copy>(table: &HashMap<&[u8], T>, text: &[u8], other: T) -> T
     ensures { result ≡ unwrap_or (noted table.now text.now) other }
 {
     match table.get(text) {
@@ -34,8 +34,8 @@ fn noted_or<T: Copy>(table: &HashMap<&[u8], T>, text: &[u8], other: T) -> T
     }
 }
 
-/// What is noted under each name of a table, else this.
-pub(crate) fn each_name<T: Copy>(
+// What is noted under each name of a table, else this.
+fn names_noted<T: Copy>(
     alloc: Global,
     table: &HashMap<&[u8], T>,
     other: T,
@@ -50,5 +50,20 @@ pub(crate) fn each_name<T: Copy>(
         };
         list.push(noted_or(table, names.text(NameId(id)), other))?;
     }
+    Ok(list)
+}
+
+/// What is noted under each name of a table, else this; and behind them the same of the empty text, which stands for names past the
+/// table.
+pub(crate) fn each_name<T: Copy>(
+    alloc: Global,
+    table: &HashMap<&[u8], T>,
+    other: T,
+    names: &NameTable,
+) -> Result<Vec<T>, Memory>
+    ensures { IfOk result (λ list. list.items ≡ map (λ t. unwrap_or (noted table.now t) other) (names.now ++ [] ∷ [])) }
+{
+    let mut list = names_noted(alloc, table, other, names)?;
+    list.push(noted_or(table, &[], other))?;
     Ok(list)
 }

@@ -1,5 +1,5 @@
 -- What a body needs of the program that it stands in, as the reader holds it.
-use Rattle.std.specs.Prelude.{◌≡◌, ℕ, List, map, Option, Some, None, slice_get, unwrap_or}
+use Rattle.std.specs.Prelude.{◌≡◌, ℕ, ◌-◌, min, List, map, length, Option, Some, None, slice_get, unwrap_or}
 use Rattle.vk_ast.specs.declared.names.NameId.{NameId}
 use Rattle.vk_meaning.specs.World.{Array}
 use Rattle.vk_meaning.specs.Data.{Datum, nothing, Action}
@@ -8,9 +8,13 @@ use Rattle.vk_reading.specs.declared.held.Held.{Held}
 use Rattle.vk_reading.specs.Held.{datum_of, IsHeld}
 use Rattle.vk_reading_steps.specs.declared.setting.Setting.{Setting}
 
+-- what a table has for a name: its last row stands for names past it
+abbrev pub row_in : {T : Type 0} → List T → NameId → Option T
+row_in rows id = slice_get rows (min id.0 (length rows - 1))
+
 -- the number of the array that a name is
 abbrev pub number_in_table : List ℕ → NameId → ℕ
-number_in_table numbers id = unwrap_or (slice_get numbers id.0) 0
+number_in_table numbers id = unwrap_or (row_in numbers id) 0
 
 abbrev pub context_in : List Array → (NameId → List Datum → Action) → Setting → Context
 context_in arrays call s = record {

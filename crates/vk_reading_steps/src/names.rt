@@ -12,7 +12,7 @@ ghost use Rattle.vk_rules_book.specs.Scopes.{meaning_of};
 ghost use Rattle.vk_rules_names.specs.Seen.{meaning_seen, scope_of};
 ghost use Rattle.vk_io.specs.Sink.{SinkState};
 ghost use Rattle.vk_reading_steps.specs.Runs.{Does, run_of};
-ghost use Rattle.vk_reading_steps.specs.Settings.{AreHeld, context_in, number_in_table, variables_in};
+ghost use Rattle.vk_reading_steps.specs.Settings.{AreHeld, context_in, number_in_table, row_in, variables_in};
 
 use crate::operands::settled;
 use crate::setting::Place;
@@ -22,12 +22,24 @@ use vk_reading::{Cells, Halt, Held};
 use vk_rules_names::Known;
 use vk_types::Stop;
 
+/// What a table has for a name: its last row stands for names past it.
+pub fn row_of<T: Copy>(rows: &[T], id: NameId) -> Option<T>
+    ensures { result ≡ row_in rows.now id }
+{
+    let last = rows.len().saturating_sub(1);
+    let number = (id.0 as usize).min(last);
+    match rows.get(number) {
+        Some(row) => Some(*row),
+        None => None,
+    }
+}
+
 // The number of the array that a name is.
 fn number_of(numbers: &[u32], id: NameId) -> u32
     ensures { result ≡ number_in_table numbers.now id }
 {
-    match numbers.get(id.0 as usize) {
-        Some(number) => *number,
+    match row_of(numbers, id) {
+        Some(number) => number,
         None => 0,
     }
 }

@@ -8,7 +8,7 @@ use vk_rules_names::Scopes;
 /// What a body needs of the program that it stands in.
 #[derive(Clone, Copy)]
 pub struct Setting<'a> {
-    /// For each name of the unit, by its number, the number of the array that it is.
+    /// For each name of the unit, by its number, the number of the array that it is; the last one is that of names past the table.
     pub numbers: &'a [u32],
     /// How many turns a loop may make.
     pub turns: u64,

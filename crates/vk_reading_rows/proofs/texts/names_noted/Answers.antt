@@ -1,7 +1,7 @@
 use Rattle.std.proofs.Common.{◌≡◌, ℕ, Some, slice_get, subst, unwrap_or, ◌∙◌, rules}
 use Rattle.vk_reading_rows.specs.Inner.Noted.{noted}
 use Rattle.vk_reading_rows.proofs.Noting.{one_name_more}
-use Rattle.vk_reading_rows.proofs.texts.each_name.Goals as goal
+use Rattle.vk_reading_rows.proofs.texts.names_noted.Goals as goal
 
 pub loop-number-preserved : goal.loop-number-preserved
 loop-number-preserved g c =

@@ -1,0 +1,5 @@
+pub mod Bodies
+pub mod Names
+pub mod Printing
+pub mod Rows
+pub mod Scopes

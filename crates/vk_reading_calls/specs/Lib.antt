@@ -1,0 +1,4 @@
+pub mod Right
+pub mod Views
+pub mod Ends
+pub mod Inner
