@@ -1,3 +1,6 @@
-pub mod Lined
+mod Calls
+mod Lined
+mod Lines
 mod Readings
+mod Selected
 mod Told

@@ -1,0 +1,6 @@
+//! Stand-in.
+#![tactic(auto)]
+
+pub mod calling;
+
+pub use calling::{Results, call};
