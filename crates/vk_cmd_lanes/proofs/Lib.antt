@@ -1,5 +1,5 @@
 mod Calls
-mod Lined
+pub mod Lined
 mod Lines
 mod Readings
 mod Selected

@@ -1,13 +1,14 @@
 -- What the words of a command line ask: one definition for all commands that are built.
 use Rattle.std.specs.Prelude.{◌≡◌, List, [], ◌∷◌, Option, Some, None, codes, false}
 use Rattle.clap.specs.Words.{App, Text, takes}
-use Rattle.vk_words.specs.Tables.{demangle_table, lanes_table, mangle_table}
-use Rattle.vk_words.specs.Asked.{IsDemangle, IsLanes, IsLanesUnstated, IsMangle, IsMangleUnstated, LanesAsked, MangleAsked}
-use Rattle.vk_words.specs.Views.{lanes_asked, mangle_asked}
-use Rattle.vk_words.specs.declared.request.Name.{Name}
-use Rattle.vk_words.specs.declared.request.Name.TheVariants.{Demangle as DemangleName, Lanes as LanesName, Mangle as MangleName}
-use Rattle.vk_words.specs.declared.request.Request.{Request}
-use Rattle.vk_words.specs.declared.request.Request.TheVariants.{Demangle, Lanes, Mangle}
+use Rattle.vk_words.specs.Tables.{demangle_table, mangle_table}
+use Rattle.vk_words.specs.Asked.{IsDemangle, IsMangle, IsMangleUnstated, MangleAsked}
+use Rattle.vk_words.specs.Views.{mangle_asked}
+use Rattle.vk_words_units.specs.Lanes.{IsLanes, IsLanesUnstated, LanesAsked, lanes_asked, lanes_table}
+use Rattle.vk_requests.specs.declared.request.Name.{Name}
+use Rattle.vk_requests.specs.declared.request.Name.TheVariants.{Demangle as DemangleName, Lanes as LanesName, Mangle as MangleName}
+use Rattle.vk_requests.specs.declared.request.Request.{Request}
+use Rattle.vk_requests.specs.declared.request.Request.TheVariants.{Demangle, Lanes, Mangle}
 use Rattle.vk_ends.specs.declared.ends.WordRule.{WordRule}
 use Rattle.vk_ends.specs.declared.ends.WordRule.TheVariants.{P1, P2, P3, P4}
 

@@ -2,16 +2,17 @@
 
 ghost use Rattle.std.specs.Prelude.{◌≡◌, ℕ, List, IfOk, IsErr, IsErrOf, IfSome, IsNone, map, string_bytes, false};
 ghost use Rattle.clap.specs.Words.{takes};
-ghost use Rattle.vk_words.specs.Command.{Command, IsCommand, IsUnstated, IsWordFault, Picks, command_of, name_text, table_of};
-ghost use Rattle.vk_words.specs.declared.request.Name.{Name as NameOf};
+ghost use Rattle.vk_requests.specs.Command.{Command, IsCommand, IsUnstated, IsWordFault, Picks, command_of, name_text, table_of};
+ghost use Rattle.vk_requests.specs.declared.request.Name.{Name as NameOf};
 ghost use Rattle.vk_ends.specs.declared.ends.WordRule.{WordRule as RuleOf};
 
-use crate::demangle::demangle_of;
-use crate::lanes::{LanesRequest, lanes_of};
-use crate::mangle::{MangleRequest, mangle_of};
-use crate::matching::NoRequest;
 use std::alloc::Global;
 use vk_ends::WordRule;
+use vk_words::MangleRequest;
+use vk_words::demangle::demangle_of;
+use vk_words::mangle::mangle_of;
+use vk_words::matching::NoRequest;
+use vk_words_units::{LanesRequest, lanes_of};
 
 /// The commands that are built.
 #[derive(Clone, Copy)]

@@ -1,9 +1,9 @@
 use Rattle.std.proofs.Common.{refl}
 use Rattle.std.specs.Prelude.{Result, Ok, Err, IfOk, IsErr}
-use Rattle.vk_words.specs.Command.{command_of}
+use Rattle.vk_requests.specs.Command.{command_of}
 use Rattle.std.proofs.lemmas.Result.{IfOk-weaker}
-use Rattle.vk_words.proofs.Unique.{command_same, fault_same, no_fault}
-use Rattle.vk_words.proofs.request.request_of.Goals as goal
+use Rattle.vk_requests.proofs.Unique.{command_same, fault_same, no_fault}
+use Rattle.vk_requests.proofs.request.request_of.Goals as goal
 
 pub returns-clause-only : goal.returns-clause-only
 returns-clause-only c = λ k a. IfOk-weaker c.judged.result _ _ (λ r f. command_same _ _ k f a) c.judged.ensures.found

@@ -1,14 +1,19 @@
 -- Words ask one thing or break one rule.
-use Rattle.std.proofs.Common.{◌≡◌, ◌∙◌, ◌==◌, ℕ, true, false, List, [], Option, Some, None, refl, sym, ap, subst, if◌then◌else◌, get_or, length, arith}
+use Rattle.std.proofs.Common.{◌≡◌, ◌∙◌, ◌==◌, ℕ, true, false, List, [], Option, Some, None, refl, sym, ap, subst, inl, inr, if◌then◌else◌, get_or, length, arith}
 use Rattle.std.specs.Prelude.{codes}
+use Rattle.std.proofs.lemmas.Fmt.{decimal_injective}
 use Rattle.std.proofs.lemmas.Bool.{false≢true}
 use Rattle.clap.specs.Words.{App, Text, takes}
 use Rattle.vk_kinds.specs.declared.kinds.Target.{Target}
 use Rattle.vk_kinds.specs.declared.kinds.Target.TheVariants.{X86, Arm}
-use Rattle.vk_words.specs.Asked.{IsDemangle, IsLanes, IsLanesUnstated, IsMangle, IsTarget, LanesAsked, MangleAsked, target_text}
-use Rattle.vk_words.specs.Command.{Command, IsCommand, IsUnstated, IsWordFault, Picks, demangle, first_word, lanes, mangle, name_text, table_of}
-use Rattle.vk_words.specs.declared.request.Name.{Name}
-use Rattle.vk_words.specs.declared.request.Name.TheVariants.{Demangle as DemangleName, Lanes as LanesName, Mangle as MangleName}
+use Rattle.vk_words.specs.Asked.{IsDemangle, IsIsa, IsMangle, IsTarget, IsTurns, MangleAsked, letter_text, target_text}
+use Rattle.vk_words_units.specs.Lanes.{IsLanes, LanesAsked, lanes_table}
+use Rattle.vk_words.specs.Reading.{value_at}
+use Rattle.vk_kinds.specs.declared.kinds.Isa.{Isa}
+use Rattle.vk_kinds.specs.declared.kinds.Isa.TheVariants.{B, C, D, E, N, S}
+use Rattle.vk_requests.specs.Command.{Command, IsCommand, IsUnstated, IsWordFault, Picks, demangle, first_word, lanes, mangle, name_text, table_of}
+use Rattle.vk_requests.specs.declared.request.Name.{Name}
+use Rattle.vk_requests.specs.declared.request.Name.TheVariants.{Demangle as DemangleName, Lanes as LanesName, Mangle as MangleName}
 use Rattle.vk_ends.specs.declared.ends.WordRule.{WordRule}
 use Rattle.vk_ends.specs.declared.ends.WordRule.TheVariants.{P1, P2, P3, P4}
 
@@ -45,12 +50,34 @@ some_word words name e p = let none : None ≡ Some (name_text name) = ap first_
 demangle_same : (words : List Text) (r s : Text) → IsDemangle words r → IsDemangle words s → r ≡ s
 demangle_same words r s a b = some_same _ _ _ a.file b.file
 
+-- the first byte of a letter's text
+abbrev letter_by : ℕ → Isa
+letter_by x = if x == 98 then B else (if x == 99 then C else (if x == 100 then D else (if x == 101 then E else (if x == 110 then N else S))))
+
+letter_of_text : (isa : Isa) → letter_by (get_or (letter_text isa) 0 0) ≡ isa
+letter_of_text B = refl
+letter_of_text C = refl
+letter_of_text D = refl
+letter_of_text E = refl
+letter_of_text N = refl
+letter_of_text S = refl
+
+isa_same : (text : Option Text) (a b : Isa) → IsIsa text a → IsIsa text b → a ≡ b
+isa_same text a b p q = sym (letter_of_text a) ∙ ap (λ (t : Text). letter_by (get_or t 0 0)) (some_same text _ _ p q) ∙ letter_of_text b
+
+turns_same : (text : Option Text) (m n : ℕ) → IsTurns text m → IsTurns text n → m ≡ n
+turns_same None m n p q = p ∙ sym q
+turns_same (Some t) m n p q = let a = p.most in let b = q.most in decimal_injective m n (omega (arith, a)) (omega (arith, b)) (sym p.spelled ∙ q.spelled)
+
 lanes_same : (words : List Text) (r s : LanesAsked) → IsLanes words r → IsLanes words s → r ≡ s
 lanes_same words r s a b =
+    let isa = isa_same _ r.isa s.isa a.isa b.isa in
     let unit = some_same _ _ _ a.unit b.unit in
     let name = some_same _ _ _ a.name b.name in
     let arguments = sym a.arguments ∙ b.arguments in
-    λ i. record { unit = unit i; name = name i; arguments = arguments i }
+    let mask = sym a.mask ∙ b.mask in
+    let turns = turns_same _ r.turns s.turns a.turns b.turns in
+    λ i. record { isa = isa i; unit = unit i; name = name i; arguments = arguments i; mask = mask i; turns = turns i }
 
 apart_targets : target_text X86 ≡ target_text Arm → ⊥
 apart_targets e = let lengths = ap length e in omega (arith, lengths)
@@ -97,7 +124,7 @@ taken words (mangle r) a = a.1.taken
 
 stated : (words : List Text) (k : Command) → IsCommand words k → IsUnstated (name_of k) words → ⊥
 stated words (demangle r) a u = u
-stated words (lanes r) a u = u.isa a.1.isa
+stated words (lanes r) a u = elim u.value [ inl letter ↦ a.1.fixed (letter r.isa a.1.isa) | inr none ↦ none r.turns a.1.turns ]
 stated words (mangle r) a u = u.target r.target a.1.target
 
 unstated_taken : (name : Name) (words : List Text) → IsUnstated name words → takes (table_of name) words ≡ true
