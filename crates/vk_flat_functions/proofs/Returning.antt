@@ -16,6 +16,7 @@ use Rattle.vk_meaning.specs.Programs.{Definition}
 use Rattle.vk_code.specs.Listing.{Listing}
 use Rattle.vk_construct.specs.Adds.{AddsValue, HasType, Written}
 use Rattle.vk_construct.specs.Trees.{param_table}
+use Rattle.vk_construct.proofs.Adding.{no_fewer}
 use Rattle.vk_construct.proofs.Names.{params_table}
 use Rattle.vk_construct_whole.specs.Wholes.{IsFinished, body_scope, param_types, returned_value, started}
 use Rattle.vk_construct_whole.proofs.Definitions.{body_good, scope_types}
@@ -27,7 +28,7 @@ use Rattle.vk_flat.specs.Locals.{Emits}
 use Rattle.vk_flat.specs.Values.{is_value}
 use Rattle.vk_flat_functions.specs.Finished.{finished}
 use Rattle.vk_flat_functions.specs.Params.{AreParams}
-use Rattle.vk_flat_functions.specs.Returns.{IsLaneCode, IsReturnCode, IsShort}
+use Rattle.vk_flat_functions.specs.Returns.{HasParams, IsLaneCode, IsReturnCode, IsShort}
 use Rattle.vk_flat_functions.proofs.Locals.{locals, named}
 
 -- ---- sizes
@@ -120,18 +121,27 @@ first_ones [] ys = search rules
 first_ones (x ∷ xs) ys = ap (λ l. x ∷ l) (first_ones xs ys)
 
 pub lane_code : (f : FunctionTree) (e : Tree) (t : Ty) (xs : List Local) (w : Written) (p : Place) (c : Listing) → c ≡ finished w p.register → AreParams 0 f.params xs → p.ty ≡ t →
-    Emits (started (types_of f.params)) w xs (cast 0 0 t e) p in_call → w.slots ≡ [] → list_all is_value w.regs ≡ true → IsLaneCode (types_of f.params) c
-lane_code f e t xs w p c is h ty emits slots values = subst (IsLaneCode (types_of f.params)) (sym is) (record {
+    Emits (started (types_of f.params)) w xs (cast 0 0 t e) p in_call → w.slots ≡ [] → list_all is_value w.regs ≡ true → IsLaneCode c
+lane_code f e t xs w p c is h ty emits slots values = subst IsLaneCode (sym is) (record {
   lanes = refl;
   slots = slots;
   no_loops = refl;
   loops = refl;
-  params = a.params;
-  types_are = ap (λ n. take n w.regs) a.params ∙ (ap (take (length (types_of f.params))) a.regs ∙ first_ones (types_of f.params) a.types);
+  params = omega (arith, a.params, no_fewer (started (types_of f.params)) w _ (8 * nodes_of (cast 0 0 t e)) 0 a);
   values = values;
   masks = a.masks;
   result = (p.register, t, refl, typed w e t xs (types_of f.params) p ty emits);
   good = λ environment. body_good (types_of f.params) w _ (8 * nodes_of (cast 0 0 t e)) 0 environment (finished w p.register).routine (Some p.register) a (omega arith) (whole w p.register);
+})
+  where
+    a : AddsValue (started (types_of f.params)) w (param_table (body_scope (some_definition f))) (returned_value (some_definition f) e t) (Int t) p.register 0 (length (types_of f.params)) 1 (8 * nodes_of (cast 0 0 t e))
+    a = adds f e t xs w p h ty emits (some_definition f) refl
+
+pub has_params : (f : FunctionTree) (e : Tree) (t : Ty) (xs : List Local) (w : Written) (p : Place) (c : Listing) → c ≡ finished w p.register → AreParams 0 f.params xs → p.ty ≡ t →
+    Emits (started (types_of f.params)) w xs (cast 0 0 t e) p in_call → HasParams (types_of f.params) c
+has_params f e t xs w p c is h ty emits = subst (HasParams (types_of f.params)) (sym is) (record {
+  count = a.params;
+  types_are = ap (λ n. take n w.regs) a.params ∙ (ap (take (length (types_of f.params))) a.regs ∙ first_ones (types_of f.params) a.types);
 })
   where
     a : AddsValue (started (types_of f.params)) w (param_table (body_scope (some_definition f))) (returned_value (some_definition f) e t) (Int t) p.register 0 (length (types_of f.params)) 1 (8 * nodes_of (cast 0 0 t e))

@@ -15,19 +15,22 @@ use Rattle.vk_construct.specs.Trees.{param_table}
 use Rattle.vk_construct_whole.specs.Wholes.{IsFinished, body_scope, param_types, returned_value, started}
 use Rattle.vk_flat.specs.Values.{is_value}
 
--- Code for integers in lanes, whose first registers are parameters of these types: it calls nothing and has no simd loops, its
--- result is in a register, and its instructions are good.
-pub record IsLaneCode (types : List CType) (c : Listing) : Type 0 where
+-- Code for integers in lanes: it calls nothing and has no simd loops, its result is in a register, and its instructions are good.
+pub record IsLaneCode (c : Listing) : Type 0 where
   pub lanes : c.routine.lane_code ≡ true
   pub slots : c.routine.slots ≡ []
   pub no_loops : c.routine.loops ≡ 0
   pub loops : c.loops ≡ []
-  pub params : c.routine.params ≡ length types
-  pub types_are : take c.routine.params c.routine.regs ≡ types
+  pub params : c.routine.params ≤ length c.routine.regs
   pub values : list_all is_value c.routine.regs ≡ true
   pub masks : 1 ≤ c.routine.masks
   pub result : (r : ℕ) × (t : Ty) × (c.routine.result ≡ Some r) × (slice_get c.routine.regs r ≡ Some (Int t))
   pub good : (e : Environment) → all_good (body_verdicts e c.routine) ≡ true
+
+-- its parameters have these types
+pub record HasParams (types : List CType) (c : Listing) : Type 0 where
+  pub count : c.routine.params ≡ length types
+  pub types_are : take c.routine.params c.routine.regs ≡ types
 
 -- registers and masks are at most 192 and four a node, instructions at most 16 a node
 pub record IsShort (nodes : ℕ) (c : Listing) : Type 0 where

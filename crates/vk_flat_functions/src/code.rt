@@ -11,7 +11,7 @@ ghost use Rattle.vk_one_return.specs.Form.{IsReturn, IsSmall, is_integer};
 ghost use Rattle.vk_flat.specs.Emitters.{written_of};
 ghost use Rattle.vk_flat.specs.Locals.{ArePlaces, Emits, is_numeric};
 ghost use Rattle.vk_flat_functions.specs.Finished.{finished};
-ghost use Rattle.vk_flat_functions.specs.Returns.{IsLaneCode, IsReturnCode, IsShort};
+ghost use Rattle.vk_flat_functions.specs.Returns.{HasParams, IsLaneCode, IsReturnCode, IsShort};
 
 use crate::params::{locals_of, types_of};
 use std::alloc::{AllocError, Global};
@@ -29,7 +29,8 @@ pub fn compile(alloc: Global, form: &Form<'_>) -> Result<Code, AllocError>
     requires returns { IsReturn (function_of form.now.function.now) (expr_of form.now.value.now) form.now.result }
     requires small { IsSmall (function_of form.now.function.now) }
     ensures returns { IfOk result (λ code. IsReturnCode (function_of form.now.function.now) (expr_of form.now.value.now) form.now.result (listing_of code)) }
-    ensures lanes { IfOk result (λ code. IsLaneCode (types_of form.now.function.now.params.items) (listing_of code)) }
+    ensures lanes { IfOk result (λ code. IsLaneCode (listing_of code)) }
+    ensures params { IfOk result (λ code. HasParams (types_of form.now.function.now.params.items) (listing_of code)) }
     ensures short { IfOk result (λ code. IsShort (nodes_of (expr_of form.now.value.now)) (listing_of code)) }
 {
     let params = form.function.params.as_slice();

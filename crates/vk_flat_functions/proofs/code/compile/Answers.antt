@@ -9,7 +9,7 @@ use Rattle.vk_construct_whole.specs.Wholes.{started}
 use Rattle.vk_flat.specs.Emitters.{written_of}
 use Rattle.vk_flat.specs.Locals.{Emits}
 use Rattle.vk_flat_functions.proofs.Locals.{handed, numeric, places}
-use Rattle.vk_flat_functions.proofs.Returning.{count_from, in_call, lane_code, returns_code, short_code}
+use Rattle.vk_flat_functions.proofs.Returning.{count_from, has_params, in_call, lane_code, returns_code, short_code}
 use Rattle.vk_flat_functions.proofs.code.compile.Goals as goal
 
 pub emit_returned-requires-clause-numeric : goal.emit_returned-requires-clause-numeric
@@ -37,6 +37,14 @@ returns-clause-lanes c =
     (handed _ _ _ _ c.as_slice-params.ensures.value c.deref.ensures.value c.in_ok-locals.ensures) c.in_ok-place.ensures.ty
     (subst (λ (a : Written). Emits a w c.deref.result.now (cast 0 0 c.args.form.now.result (expr_of c.args.form.now.value.now)) c.in_ok-place.place in_call) first c.in_ok-place.ensures.code)
     (c.in_ok-place.ensures.slots ∙ ap (λ (a : Written). a.slots) first) c.emit_returned.new.emitter.values
+
+pub returns-clause-params : goal.returns-clause-params
+returns-clause-params c =
+    let w = written_of c.emit_returned.new.emitter in
+    let first = c.in_ok-emitter.ensures ∙ ap (λ l. started (types_of l)) c.as_slice-params.ensures.value in
+    has_params (function_of c.args.form.now.function.now) (expr_of c.args.form.now.value.now) c.args.form.now.result c.deref.result.now w c.in_ok-place.place (listing_of c.finished.result) c.finished.ensures
+    (handed _ _ _ _ c.as_slice-params.ensures.value c.deref.ensures.value c.in_ok-locals.ensures) c.in_ok-place.ensures.ty
+    (subst (λ (a : Written). Emits a w c.deref.result.now (cast 0 0 c.args.form.now.result (expr_of c.args.form.now.value.now)) c.in_ok-place.place in_call) first c.in_ok-place.ensures.code)
 
 pub returns-clause-short : goal.returns-clause-short
 returns-clause-short c =
