@@ -1,4 +1,4 @@
-// Stand-in.
+// A call of a unit's function.
 
 ghost use Rattle.std.specs.Prelude.{◌≡◌, ◌<◌, ◌*◌, ℕ, [], length, IfOk, Some, true};
 ghost use Rattle.vk_ast.specs.Tree.{expr_of};
@@ -10,21 +10,21 @@ ghost use Rattle.vk_rules_book.specs.Rules.{Subject};
 ghost use Rattle.vk_meaning.specs.Lanes.{AreTyped};
 ghost use Rattle.vk_arguments.specs.Arguments.{passed};
 ghost use Rattle.vk_lane_lines.specs.Lines.{AreResults, ended, stops_in, told_by};
-ghost use Rattle.vk_unit_call.specs.Values.{scalar_value};
 ghost use Rattle.vk_one_return.specs.Form.{IsForm, IsReturn, IsSmall};
+ghost use Rattle.vk_unit_call.specs.Values.{scalar_value};
 
+use crate::running::{Results, run};
 use std::alloc::Global;
+use vk_flat_functions::compile;
 use vk_lanes::LaneMask;
 use vk_memory::Memory;
 use vk_one_return::Form;
-use vk_types::{Stop, Word};
+use vk_types::Word;
 
-#[derive(Drop)]
-pub struct Results {
-    pub words: Vec<Word>,
-    pub stops: Vec<Option<Stop>>,
-}
-
+/// Calls the function in the lanes of a mask, at least one, where a loop would make at most `turns` turns.
+///
+/// `words` has for each parameter a canonical word for each lane, one parameter after another. In each lane that is on there is what
+/// the scalar call on its words gives: its stop, or the word of its value.
 pub fn call(
     alloc: Global,
     form: &Form<'_>,
@@ -43,5 +43,6 @@ pub fn call(
         ≡ told_by (scalar_value unit (function_of form.now.function.now) turns (passed (lane_count mask.now) words.now) lane)) }
     ensures typed { IfOk result (λ r. AreResults (Some form.now.result) (lane_count mask.now) (is_on mask.now) (word_in r.words.items) (stops_in r.stops.items)) }
 {
-    Err(Memory)
+    let code = compile(alloc, form)?;
+    run(alloc, code, turns, mask, words)
 }

@@ -1,6 +1,8 @@
-//! Stand-in.
+//! One call, on lanes, of the function of a unit that is one function of one `return`.
 #![tactic(auto)]
 
 pub mod calling;
+pub mod running;
 
-pub use calling::{Results, call};
+pub use calling::call;
+pub use running::Results;
