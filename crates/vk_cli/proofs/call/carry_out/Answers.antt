@@ -33,4 +33,4 @@ returns-in-Mangle-clause-holds g c =
     (told_holds (mangle (mangle_asked c.in-Mangle.request)) _ _ _ _ c.mangle-end.result c.report-in-Mangle.result c.report-in-Mangle.ensures.end c.mangle-end.ensures)
 
 pub lanes-end-requires : goal.lanes-end-requires
-lanes-end-requires g c = subst (λ (q : Request). HasFixedLetter (command_of q)) c.in-Lanes.is c.requires
+lanes-end-requires g c = record { letter = subst (λ (q : Request). HasFixedLetter (command_of q)) c.in-Lanes.is c.requires.letter }
