@@ -4,4 +4,4 @@ mod Numerals
 mod Parts
 mod Passing
 mod Ranges
-mod Unique
+pub mod Unique

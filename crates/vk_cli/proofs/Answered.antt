@@ -1,5 +1,5 @@
 -- What the steps of the top call say of its answer.
-use Rattle.std.proofs.Common.{◌≡◌, ◌⊎◌, inl, inr, [], ◌∷◌, refl, sym, subst}
+use Rattle.std.proofs.Common.{◌≡◌, ◌⊎◌, inl, inr, ℕ, List, [], ◌∷◌, refl, sym, subst}
 use Rattle.vk_io.specs.Sink.{SinkState}
 use Rattle.vk_io.specs.Store.{StoreState}
 use Rattle.vk_io.proofs.Counting.{Reads-none}
@@ -8,11 +8,11 @@ use Rattle.vk_ends.specs.declared.ends.End.TheVariants.{Words, Memory}
 use Rattle.vk_ends.specs.declared.ends.WordFault.{WordFault}
 use Rattle.vk_ends.proofs.Acting.{Stays-none, acts_memory}
 use Rattle.vk_ends.proofs.Holding.{Holds-told, holds}
-use Rattle.vk_words.specs.Command.{Command, demangle, lanes, mangle}
+use Rattle.vk_requests.specs.Command.{Command, IsCommand, demangle, lanes, mangle}
 use Rattle.vk_cmd_demangle.proofs.Lined.{one_text as one_demangled}
 use Rattle.vk_cmd_lanes.proofs.Lined.{one_text as one_called}
 use Rattle.vk_cmd_mangle.proofs.Lined.{one_text as one_mangled}
-use Rattle.vk_cli.specs.Commands.{CommandHolds, called}
+use Rattle.vk_cli.specs.Commands.{CommandHolds, HasFixedLetter, called}
 use Rattle.vk_cli.specs.Unasked.{IsUnasked, UnaskedHolds}
 
 -- what holds with an end holds with the end that is told
@@ -27,6 +27,12 @@ pub memory_holds : (k : Command) (store : StoreState) (out : SinkState) → Comm
 memory_holds (demangle file) store out = holds (one_demangled (store.file file)) (acts_memory out tt (Reads-none (file ∷ []) store))
 memory_holds (lanes r) store out = holds (one_called (called r) (store.file r.unit)) (acts_memory out tt (Reads-none (r.unit ∷ []) store))
 memory_holds (mangle r) store out = holds (one_mangled r.target (store.file r.unit)) (acts_memory out tt (Reads-none (r.unit ∷ []) store))
+
+-- words ask for a fixed letter
+pub fixed_letter : (words : List (List ℕ)) (k : Command) → IsCommand words k → HasFixedLetter k
+fixed_letter words (demangle file) h = tt
+fixed_letter words (lanes r) h = h.1.fixed
+fixed_letter words (mangle r) h = tt
 
 -- no command answers that its words are wrong
 pub no_words : (k : Command) (store store_now : StoreState) (out out_now : SinkState) (fault : WordFault) → CommandHolds k store store_now out out_now (Words fault) → ⊥

@@ -8,7 +8,7 @@ use Rattle.vk_ends.specs.Holds.{Holds, end_of}
 use Rattle.vk_ends.specs.declared.ends.Refusal.{Refusal}
 use Rattle.vk_ends.specs.declared.ends.End.{End}
 use Rattle.vk_ends.specs.declared.ends.End.TheVariants.{Memory}
-use Rattle.vk_words.specs.Command.{Command, demangle, files_of, lanes, mangle}
+use Rattle.vk_requests.specs.Command.{Command, demangle, files_of, lanes, mangle}
 use Rattle.vk_cli.specs.Commands.{AreThere, CommandHolds, CommandPrints}
 
 no_rise : (a b : ℕ) → a ≡ 0 → b ≡ a → Rose a b → ⊥

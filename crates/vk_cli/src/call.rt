@@ -4,8 +4,8 @@ ghost use Rattle.std.specs.Prelude.{◌≡◌, ◌⊎◌, []};
 ghost use Rattle.vk_ends.specs.Reports.{Reports};
 ghost use Rattle.vk_ends.specs.declared.ends.WordFault.{WordFault};
 ghost use Rattle.vk_ends.specs.declared.ends.WordRule.{WordRule};
-ghost use Rattle.vk_words.specs.Command.{Command, IsCommand, IsWordFault, command_of, files_of};
-ghost use Rattle.vk_cli.specs.Commands.{CommandHolds};
+ghost use Rattle.vk_requests.specs.Command.{Command, IsCommand, IsWordFault, command_of, files_of};
+ghost use Rattle.vk_cli.specs.Commands.{CommandHolds, HasFixedLetter};
 ghost use Rattle.vk_cli.specs.Unasked.{UnaskedHolds};
 
 use std::alloc::Global;
@@ -14,13 +14,14 @@ use vk_cmd_lanes::{Call, lanes};
 use vk_cmd_mangle::mangle;
 use vk_ends::{End, WordFault, report, report_memory};
 use vk_io::{Sink, Store, Words};
-use vk_words::{Request, WordFail, request_of};
+use vk_requests::{Request, WordFail, request_of};
 
 /// Does what the words ask.
 ///
 /// - `demangle FILE` reads one vector name a line and writes each in words.
-/// - `lanes --isa b UNIT NAME ARG..` reads the unit, judges it, calls the vector variant NAME of its one function, which returns an
-///   integer expression of its parameters, on the lanes' arguments, and writes the line `lane I: N` of each lane on `out`.
+/// - `lanes --isa I [--mask BITS] [--turns N] UNIT NAME ARG..` reads the unit, judges it for the letter's target, calls the variant or
+///   function NAME of its one function, which returns an integer expression of its parameters, on the lanes' arguments, and writes the
+///   line of each lane on `out`: what the scalar function gives on the lane's arguments.
 /// - `mangle --target T UNIT` reads the unit, judges it and writes each vector name that its directives give.
 ///
 /// An end other than `Done` puts its one line on `err`; a fault of `err` changes no answer. The answers, in this order:
@@ -65,6 +66,7 @@ fn carry_out<S: Store, O: Sink, E: Sink>(
     out: &mut O,
     err: &mut E,
 ) -> End
+    requires letter { HasFixedLetter (command_of request.now) }
     ensures holds { CommandHolds (command_of request.now) (S.state store.old) (S.state store.new) (O.state out.old) (O.state out.new) result }
     ensures reports { Reports (files_of (command_of request.now)) result (E.state err.old) (E.state err.new) }
 {
@@ -75,9 +77,12 @@ fn carry_out<S: Store, O: Sink, E: Sink>(
         }
         Request::Lanes(request) => {
             let call = Call {
+                isa: request.isa,
                 unit: request.unit,
                 name: request.name,
                 arguments: &request.arguments,
+                mask: request.mask,
+                turns: request.turns,
             };
             let end = lanes(alloc, call, store, out);
             report(alloc, end, &[request.unit], err)

@@ -4,7 +4,7 @@ ghost use Rattle.std.specs.Prelude.{◌≡◌, ◌⊎◌, ℕ, List, Option};
 ghost use Rattle.vk_types.specs.declared.types.Stop.{Stop};
 ghost use Rattle.vk_io.specs.PureStore.{state_of};
 ghost use Rattle.vk_ends.specs.Holds.{end_of};
-ghost use Rattle.vk_words.specs.Command.{Command, IsCommand, files_of};
+ghost use Rattle.vk_requests.specs.Command.{Command, IsCommand, files_of};
 ghost use Rattle.vk_cli.specs.Commands.{AreThere, CommandPrints};
 
 use crate::call::vfabi;

@@ -1,3 +1,6 @@
+mod Calls
 pub mod Lined
+mod Lines
 mod Readings
+mod Selected
 mod Told

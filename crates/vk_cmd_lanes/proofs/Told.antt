@@ -1,6 +1,5 @@
 -- What the steps of the command say of its file.
-use Rattle.std.proofs.Common.{◌≡◌, ℕ, ◌≤◌, List, [], ◌∷◌, ◌++◌, length, map, Option, None, Some, refl, sym, ap, subst}
-use Rattle.std.specs.List.{concat, flat_map}
+use Rattle.std.proofs.Common.{◌≡◌, ℕ, List, Option, None, Some, refl, sym, subst}
 use Rattle.vk_io.specs.Whole.{IsTooLong}
 use Rattle.vk_ends.specs.Inputs.{IsUnread}
 use Rattle.vk_ends.specs.Printing.{IsPrinted}
@@ -8,13 +7,7 @@ use Rattle.vk_ends.specs.declared.ends.Refusal.{Refusal}
 use Rattle.vk_ends.specs.declared.ends.Refusal.TheVariants.{Size, Name as Unnamed, Unit as Unfit, NotYet, Call as CallRefusal}
 use Rattle.vk_ends.specs.declared.ends.End.{End}
 use Rattle.vk_ends.specs.declared.ends.End.TheVariants.{Done, Refused, Words, Stopped, ReadFault, WriteFault, Memory}
-use Rattle.vk_simple.specs.Form.{FormTree}
-use Rattle.vk_cmd_lanes.specs.Lanes.{AllowsLanes, Asked, IsFormed, IsUncalled, PrintsLanes, RefusesLanes}
-
--- a text for each
-pub flat_map_is : {A : Type 0} (f : A → List ℕ) (xs : List A) → flat_map f xs ≡ concat (map f xs)
-flat_map_is f [] = refl
-flat_map_is f (x ∷ xs) = ap (λ t. f x ++ t) (flat_map_is f xs)
+use Rattle.vk_cmd_lanes.specs.Lanes.{AllowsLanes, Asked, PrintsLanes, RefusesLanes}
 
 pub too_long : (r : Asked) (contents : Option (List ℕ)) → IsTooLong contents 1048576 → RefusesLanes r contents (Size 0)
 too_long r contents h = subst (λ (o : Option (List ℕ)). RefusesLanes r o (Size 0)) (sym h.1) (refl, h.2)
@@ -58,11 +51,3 @@ allowed_printed (Stopped stop) u = u
 allowed_printed (ReadFault input) u = absurd u
 allowed_printed WriteFault u = tt
 allowed_printed Memory u = tt
-
--- a refusal of a call is due for the unit
-pub call_refused : (r : Asked) (bytes : List ℕ) (f : FormTree) (refusal : Refusal) → length bytes ≤ 1048576 → IsFormed bytes f → IsUncalled f r refusal → RefusesLanes r (Some bytes) refusal
-call_refused r bytes f (Size input) fits formed h = absurd h
-call_refused r bytes f (Unnamed line at rule) fits formed h = h
-call_refused r bytes f (Unfit input line directive rule) fits formed h = absurd h
-call_refused r bytes f (NotYet input) fits formed h = absurd h
-call_refused r bytes f (CallRefusal fault) fits formed h = (fits, f, formed, h)

@@ -68,9 +68,10 @@ pub record Brings (old new : Written) (result : Share → Result ℤ Stop) (d : 
 abbrev pub BringsInto : (old new : Written) → (Share → Result ℤ Stop) → Place → Under → (size : ℕ) → Type 0
 BringsInto old new result d u size = (k : ℕ) → k ≤ d.register → AddsNumber old new result d.ty d.register u.mask k u.free size
 
--- as many parameters and masks, and at most so many registers more
+-- as many parameters and masks, the same calls, and at most so many registers more
 pub record HasBase (old new : Emitter) (more : ℕ) : Type 0 where
   pub params : new.params ≡ old.params
+  pub slots : (written_of new).slots ≡ (written_of old).slots
   pub masks : new.masks ≡ old.masks
   pub least : length old.regs.items ≤ length new.regs.items
   pub most : length new.regs.items ≤ length old.regs.items + more

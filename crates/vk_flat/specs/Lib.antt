@@ -1,2 +1,3 @@
 pub mod Emitters
 pub mod Locals
+pub mod Values

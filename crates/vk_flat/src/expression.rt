@@ -28,6 +28,7 @@ pub fn emit(
     requires room { length emitter.old.regs.items + emitter.old.masks + 4 * (nodes_of (expr_of e.now)) < 65536 }
     ensures code { IfOk result (λ d. Emits (written_of emitter.old) (written_of emitter.new) locals.now (expr_of e.now) d under) }
     ensures params { OnOk result (emitter.new.params ≡ emitter.old.params) }
+    ensures slots { OnOk result ((written_of emitter.new).slots ≡ (written_of emitter.old).slots) }
     ensures masks { OnOk result (emitter.old.masks ≤ emitter.new.masks) }
     ensures registers { OnOk result (length emitter.old.regs.items ≤ length emitter.new.regs.items) }
     ensures count { OnOk result (length emitter.new.regs.items + emitter.new.masks ≤ length emitter.old.regs.items + emitter.old.masks + 4 * (nodes_of (expr_of e.now))) }
@@ -82,6 +83,7 @@ fn emit_and(
     requires room { length emitter.old.regs.items + emitter.old.masks + 4 * (1 + nodes_of (expr_of left.now) + nodes_of (expr_of right.now)) < 65536 }
     ensures code { (line token : ℕ) → IfOk result (λ d. Emits (written_of emitter.old) (written_of emitter.new) locals.now (binary line token LogAnd (expr_of left.now) (expr_of right.now)) d under) }
     ensures params { OnOk result (emitter.new.params ≡ emitter.old.params) }
+    ensures slots { OnOk result ((written_of emitter.new).slots ≡ (written_of emitter.old).slots) }
     ensures masks { OnOk result (emitter.old.masks ≤ emitter.new.masks) }
     ensures registers { OnOk result (length emitter.old.regs.items ≤ length emitter.new.regs.items) }
     ensures count { OnOk result (length emitter.new.regs.items + emitter.new.masks ≤ length emitter.old.regs.items + emitter.old.masks + 4 * (1 + nodes_of (expr_of left.now) + nodes_of (expr_of right.now))) }
@@ -111,6 +113,7 @@ fn emit_or(
     requires room { length emitter.old.regs.items + emitter.old.masks + 4 * (1 + nodes_of (expr_of left.now) + nodes_of (expr_of right.now)) < 65536 }
     ensures code { (line token : ℕ) → IfOk result (λ d. Emits (written_of emitter.old) (written_of emitter.new) locals.now (binary line token LogOr (expr_of left.now) (expr_of right.now)) d under) }
     ensures params { OnOk result (emitter.new.params ≡ emitter.old.params) }
+    ensures slots { OnOk result ((written_of emitter.new).slots ≡ (written_of emitter.old).slots) }
     ensures masks { OnOk result (emitter.old.masks ≤ emitter.new.masks) }
     ensures registers { OnOk result (length emitter.old.regs.items ≤ length emitter.new.regs.items) }
     ensures count { OnOk result (length emitter.new.regs.items + emitter.new.masks ≤ length emitter.old.regs.items + emitter.old.masks + 4 * (1 + nodes_of (expr_of left.now) + nodes_of (expr_of right.now))) }
@@ -141,6 +144,7 @@ fn emit_choice(
     requires room { length emitter.old.regs.items + emitter.old.masks + 4 * (1 + nodes_of (expr_of condition.now) + nodes_of (expr_of first.now) + nodes_of (expr_of second.now)) < 65536 }
     ensures code { (line token : ℕ) → IfOk result (λ d. Emits (written_of emitter.old) (written_of emitter.new) locals.now (choice line token (expr_of condition.now) (expr_of first.now) (expr_of second.now)) d under) }
     ensures params { OnOk result (emitter.new.params ≡ emitter.old.params) }
+    ensures slots { OnOk result ((written_of emitter.new).slots ≡ (written_of emitter.old).slots) }
     ensures masks { OnOk result (emitter.old.masks ≤ emitter.new.masks) }
     ensures registers { OnOk result (length emitter.old.regs.items ≤ length emitter.new.regs.items) }
     ensures count { OnOk result (length emitter.new.regs.items + emitter.new.masks ≤ length emitter.old.regs.items + emitter.old.masks + 4 * (1 + nodes_of (expr_of condition.now) + nodes_of (expr_of first.now) + nodes_of (expr_of second.now))) }

@@ -1,6 +1,7 @@
 //! The compiler of expressions to lane code.
 #![tactic(auto)]
 
+pub mod appending;
 pub mod emitter;
 pub mod expression;
 pub mod instructions;

@@ -34,6 +34,7 @@ impl Emitter {
         ensures code { IfOk result (λ d. HasCases (written_of self.old) (written_of self.new) a d under) }
         ensures ty { IfOk result (λ d. d.ty ≡ ty) }
         ensures params { OnOk result (self.new.params ≡ self.old.params) }
+        ensures slots { OnOk result ((written_of self.new).slots ≡ (written_of self.old).slots) }
         ensures free { OnOk result (under.free + 3 ≤ self.new.masks) }
         ensures masks { OnOk result (self.old.masks ≤ self.new.masks) }
         ensures registers { OnOk result (length self.new.regs.items ≡ length self.old.regs.items + 1) }

@@ -5,6 +5,7 @@ use Rattle.std.specs.List.{range_with_len}
 use Rattle.vk_types.specs.declared.types.Ty.{Ty}
 use Rattle.vk_types.specs.declared.types.Stop.{Stop}
 use Rattle.vk_types.specs.Numbers.{IsCanonical, number_of}
+use Rattle.vk_meaning.specs.Data.{Value as Result, got, halts, number, pointer, nothing}
 use Rattle.vk_ends.specs.Ends.{stop_word}
 use Rattle.vk_lane_lines.specs.declared.lines.Told.{Told}
 use Rattle.vk_lane_lines.specs.declared.lines.Told.TheVariants.{Off, Stopped, Done, Value}
@@ -16,6 +17,13 @@ abbrev pub ended : Option Ty → (word : ℕ) → Option Stop → Told
 ended t word (Some stop) = Stopped stop
 ended None word None = Done
 ended (Some t) word None = Value (number_of t word)
+
+-- a lane that is active, by what the scalar call on its arguments gives
+abbrev pub told_by : Result → Told
+told_by (got (number z) w) = Value z
+told_by (got (pointer array offset) w) = Done
+told_by (got nothing w) = Done
+told_by (halts stop w) = Stopped stop
 
 -- a lane that is active, or not
 abbrev pub told_of : Option Ty → Bool → (word : ℕ) → Option Stop → Told

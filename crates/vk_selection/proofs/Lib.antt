@@ -1,5 +1,5 @@
 mod Counts
-mod Fits
+pub mod Fits
 mod Lists
 mod Parts
 mod SameKinds

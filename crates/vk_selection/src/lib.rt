@@ -8,5 +8,5 @@ pub mod params;
 pub mod selection;
 pub mod variants;
 
-pub use letters::uses;
+pub use letters::{target_of, uses};
 pub use selection::{Selected, Variant, selected_in};

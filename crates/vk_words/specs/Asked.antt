@@ -1,7 +1,7 @@
 -- What the words of a command ask.
 use Rattle.std.specs.Prelude.{◌≡◌, ◌⊎◌, ◌≤◌, ◌<◌, ℕ, Bool, true, List, [], ◌∷◌, codes, decimal, length, map, Option, Some, None}
 use Rattle.clap.specs.Words.{App, Text, first_of, matches_of, one_of, takes}
-use Rattle.vk_words.specs.Tables.{call_table, demangle_table, lanes_table, link_table, mangle_table, run_table}
+use Rattle.vk_words.specs.Tables.{call_table, demangle_table, link_table, mangle_table, run_table}
 use Rattle.vk_words.specs.Reading.{flag_at, value_at, values_at}
 use Rattle.vk_kinds.specs.declared.kinds.Isa.{Isa}
 use Rattle.vk_kinds.specs.declared.kinds.Isa.TheVariants.{B, C, D, E, N, S}
@@ -135,21 +135,3 @@ pub record IsLinkUnstated (words : List Text) : Type 0 where
 pub record IsDemangle (words : List Text) (name : Text) : Type 0 where
   pub taken : takes demangle_table words ≡ true
   pub file : value_at demangle_table (codes "FILE") words ≡ Some name
-
--- lanes --isa b UNIT NAME ARG..
-pub record LanesAsked : Type 0 where
-  pub unit : Text
-  pub name : Text
-  pub arguments : List Text
-
-pub record IsLanes (words : List Text) (r : LanesAsked) : Type 0 where
-  pub taken : takes lanes_table words ≡ true
-  pub isa : value_at lanes_table (codes "isa") words ≡ Some (codes "b")
-  pub unit : value_at lanes_table (codes "UNIT") words ≡ Some r.unit
-  pub name : value_at lanes_table (codes "NAME") words ≡ Some r.name
-  pub arguments : values_at lanes_table (codes "ARG") words ≡ r.arguments
-
--- P4 of it: the letter is not b
-pub record IsLanesUnstated (words : List Text) : Type 0 where
-  pub taken : takes lanes_table words ≡ true
-  pub isa : value_at lanes_table (codes "isa") words ≡ Some (codes "b") → ⊥

@@ -2,10 +2,9 @@
 use Rattle.std.specs.Prelude.{map, option_map}
 use Rattle.vk_words.specs.declared.call.CallRequest.{CallRequest}
 use Rattle.vk_words.specs.declared.run.RunRequest.{RunRequest}
-use Rattle.vk_words.specs.declared.lanes.LanesRequest.{LanesRequest}
 use Rattle.vk_words.specs.declared.link.LinkRequest.{LinkRequest}
 use Rattle.vk_words.specs.declared.mangle.MangleRequest.{MangleRequest}
-use Rattle.vk_words.specs.Asked.{CallAsked, LanesAsked, LinkAsked, MangleAsked, RunAsked}
+use Rattle.vk_words.specs.Asked.{CallAsked, LinkAsked, MangleAsked, RunAsked}
 
 abbrev pub call_asked : CallRequest → CallAsked
 call_asked r = record {
@@ -21,9 +20,6 @@ run_asked r = record { image = r.image.now; turns = r.turns; has_stats = r.has_s
 
 abbrev pub link_asked : LinkRequest → LinkAsked
 link_asked r = record { isa = r.isa; vl = r.vl; image = r.image.now; objects = map (λ s. s.now) r.objects.items }
-
-abbrev pub lanes_asked : LanesRequest → LanesAsked
-lanes_asked r = record { unit = r.unit.now; name = r.name.now; arguments = map (λ s. s.now) r.arguments.items }
 
 abbrev pub mangle_asked : MangleRequest → MangleAsked
 mangle_asked r = record { target = r.target; unit = r.unit.now }

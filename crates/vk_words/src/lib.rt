@@ -4,15 +4,11 @@
 pub mod call;
 pub mod demangle;
 pub mod getters;
-pub mod lanes;
 pub mod link;
 pub mod mangle;
 pub mod matching;
-pub mod request;
 pub mod run;
 pub mod tables;
 pub mod values;
 
-pub use lanes::LanesRequest;
 pub use mangle::MangleRequest;
-pub use request::{Request, WordFail, request_of};

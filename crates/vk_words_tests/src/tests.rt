@@ -1,8 +1,8 @@
 use std::alloc::{AllocError, Global};
 use std::test::Fail;
 use vk_io::{Memory, Words};
-use vk_kinds::Target;
-use vk_words::{Request, WordFail, request_of};
+use vk_kinds::{Isa, Target};
+use vk_requests::{Request, WordFail, request_of};
 
 // Words, separated by blanks, and what they ask: the command with its values, or the rule that they break.
 static DEMANGLE: [(&str, &str); 22] = [
@@ -30,25 +30,26 @@ static DEMANGLE: [(&str, &str); 22] = [
     ("demangle -5", "P3"),
 ];
 
-static LANES: [(&str, &str); 38] = [
-    ("lanes --isa b u n", "lanes u n"),
-    ("lanes --isa=b u n", "lanes u n"),
-    ("lanes u --isa b n", "lanes u n"),
-    ("lanes u n --isa b", "lanes u n"),
-    ("lanes u n --isa=b", "lanes u n"),
-    ("lanes --isa b u n 1", "lanes u n 1"),
-    ("lanes --isa b u n 1 2", "lanes u n 1 2"),
-    ("lanes u n 1 --isa b 2", "lanes u n 1 2"),
-    ("lanes u n 1 2 --isa=b", "lanes u n 1 2"),
-    ("lanes --isa b -- u n 1", "lanes u n 1"),
-    ("lanes --isa b u n -- -1 2", "lanes u n -1 2"),
-    ("lanes --isa b u n -- 1 -2,-3", "lanes u n 1 -2,-3"),
-    ("lanes --isa b u -- -n", "lanes u -n"),
-    ("lanes --isa b u n -- --isa b", "lanes u n --isa b"),
-    ("lanes --isa b u n -", "lanes u n -"),
-    ("lanes --isa b - n", "lanes - n"),
-    ("lanes --isa b u n -- --", "lanes u n --"),
-    ("lanes --isa c u n", "P4"),
+static LANES: [(&str, &str); 39] = [
+    ("lanes --isa b u n", "lanes b u n"),
+    ("lanes --isa=b u n", "lanes b u n"),
+    ("lanes u --isa b n", "lanes b u n"),
+    ("lanes u n --isa b", "lanes b u n"),
+    ("lanes u n --isa=b", "lanes b u n"),
+    ("lanes --isa b u n 1", "lanes b u n 1"),
+    ("lanes --isa b u n 1 2", "lanes b u n 1 2"),
+    ("lanes u n 1 --isa b 2", "lanes b u n 1 2"),
+    ("lanes u n 1 2 --isa=b", "lanes b u n 1 2"),
+    ("lanes --isa b -- u n 1", "lanes b u n 1"),
+    ("lanes --isa b u n -- -1 2", "lanes b u n -1 2"),
+    ("lanes --isa b u n -- 1 -2,-3", "lanes b u n 1 -2,-3"),
+    ("lanes --isa b u -- -n", "lanes b u -n"),
+    ("lanes --isa b u n -- --isa b", "lanes b u n --isa b"),
+    ("lanes --isa b u n -", "lanes b u n -"),
+    ("lanes --isa b - n", "lanes b - n"),
+    ("lanes --isa b u n -- --", "lanes b u n --"),
+    ("lanes --isa c u n", "lanes c u n"),
+    ("lanes --isa n u n 1 --mask 01 --turns 5", "lanes n u n 1 mask 01 turns 5"),
     ("lanes --isa s u n", "P4"),
     ("lanes --isa B u n", "P4"),
     ("lanes --isa bb u n", "P4"),
@@ -64,8 +65,8 @@ static LANES: [(&str, &str); 38] = [
     ("lanes --isa=b u n --isa b", "P3"),
     ("lanes --isa c --isa b u n", "P3"),
     ("lanes --isa b u n -1", "P3"),
-    ("lanes --isa b --mask 1111 u n", "P3"),
-    ("lanes --isa b --turns=5 u n", "P3"),
+    ("lanes --isa b --mask 1111 u n", "lanes b u n mask 1111"),
+    ("lanes --isa b --turns=5 u n", "lanes b u n turns 5"),
     ("lanes --isa b --vl 128 u n", "P3"),
     ("lanes -- --isa b u n", "P3"),
     ("lanes --is b u n", "P3"),
@@ -108,14 +109,32 @@ fn target_word(target: Target) -> &'static str {
     }
 }
 
+fn letter_word(isa: Isa) -> &'static str {
+    match isa {
+        Isa::B => "b",
+        Isa::C => "c",
+        Isa::D => "d",
+        Isa::E => "e",
+        Isa::N => "n",
+        Isa::S => "s",
+    }
+}
+
 // What was read of words, as the tables have it.
 fn told(alloc: Global, read: Result<Request, WordFail>) -> Result<String, AllocError> {
     match read {
         Ok(Request::Demangle(file)) => format!(in alloc; "demangle {file}"),
         Ok(Request::Lanes(request)) => {
-            let mut text = format!(in alloc; "lanes {} {}", request.unit, request.name)?;
+            let letter = letter_word(request.isa);
+            let mut text = format!(in alloc; "lanes {letter} {} {}", request.unit, request.name)?;
             for argument in &request.arguments {
                 write!(text, " {argument}")?;
+            }
+            if let Some(mask) = request.mask {
+                write!(text, " mask {mask}")?;
+            }
+            if request.turns != 1000000 {
+                write!(text, " turns {}", request.turns)?;
             }
             Ok(text)
         }

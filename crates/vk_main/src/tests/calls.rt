@@ -2,7 +2,7 @@
 use super::sources::{EIGHT, PRODUCT, SELF};
 
 // The unit in the file `f.c`, the words, the bytes of `out` and `err`, and the status.
-pub(super) static REFUSED: [(&str, &str, &str, &str, u8); 51] = [
+pub(super) static REFUSED: [(&str, &str, &str, &str, u8); 50] = [
     // A file that is absent.
     (
         PRODUCT,
@@ -121,13 +121,6 @@ pub(super) static REFUSED: [(&str, &str, &str, &str, u8); 51] = [
     (
         PRODUCT,
         "lanes --isa b f.c _ZGVbN4vv_ff 1 1",
-        "",
-        "vfabi: call: A1 0 0\n",
-        1,
-    ),
-    (
-        PRODUCT,
-        "lanes --isa b f.c f 1 1",
         "",
         "vfabi: call: A1 0 0\n",
         1,

@@ -1,7 +1,7 @@
 //! Units that are no C of the profile, and accepted units of another form.
 
 // The unit in the file `f.c`, the words, the bytes of `out` and `err`, and the status.
-pub(super) static UNITS: [(&str, &str, &str, &str, u8); 25] = [
+pub(super) static UNITS: [(&str, &str, &str, &str, u8); 17] = [
     // Units that break one of the rules C1 to C7.
     (
         "int f(",
@@ -89,27 +89,6 @@ pub(super) static UNITS: [(&str, &str, &str, &str, u8); 25] = [
         1,
     ),
     (
-        "#pragma omp declare simd\nint f(int a, int b) { return a * b; }\n",
-        "lanes --isa b f.c _ZGVbN4vv_f 1 1",
-        "",
-        "vfabi: f.c: X1\n",
-        1,
-    ),
-    (
-        "#pragma omp declare simd inbranch\nint f(int a, int b) { return a * b; }\n",
-        "lanes --isa b f.c _ZGVbN4vv_f 1 1",
-        "",
-        "vfabi: f.c: X1\n",
-        1,
-    ),
-    (
-        "#pragma omp declare simd notinbranch uniform(b)\nint f(int a, int b) { return a * b; }\n",
-        "lanes --isa b f.c _ZGVbN4vv_f 1 1",
-        "",
-        "vfabi: f.c: X1\n",
-        1,
-    ),
-    (
         "#pragma omp declare simd notinbranch\nint f(int a, int b);\n",
         "lanes --isa b f.c _ZGVbN4vv_f 1 1",
         "",
@@ -118,34 +97,6 @@ pub(super) static UNITS: [(&str, &str, &str, &str, u8); 25] = [
     ),
     (
         "#pragma omp declare simd notinbranch\nint f(int a, int *b) { return a; }\n",
-        "lanes --isa b f.c _ZGVbN4vv_f 1 1",
-        "",
-        "vfabi: f.c: X1\n",
-        1,
-    ),
-    (
-        "#pragma omp declare simd notinbranch\nint f(int a, int b) { return a / b; }\n",
-        "lanes --isa b f.c _ZGVbN4vv_f 1 1",
-        "",
-        "vfabi: f.c: X1\n",
-        1,
-    ),
-    (
-        "#pragma omp declare simd notinbranch\nint f(int a, int b) { return a % b; }\n",
-        "lanes --isa b f.c _ZGVbN4vv_f 1 1",
-        "",
-        "vfabi: f.c: X1\n",
-        1,
-    ),
-    (
-        "#pragma omp declare simd notinbranch\nint f(int a, int b) { return a && b; }\n",
-        "lanes --isa b f.c _ZGVbN4vv_f 1 1",
-        "",
-        "vfabi: f.c: X1\n",
-        1,
-    ),
-    (
-        "#pragma omp declare simd notinbranch\nint f(int a, int b) { return a ? b : 1; }\n",
         "lanes --isa b f.c _ZGVbN4vv_f 1 1",
         "",
         "vfabi: f.c: X1\n",
@@ -168,13 +119,6 @@ pub(super) static UNITS: [(&str, &str, &str, &str, u8); 25] = [
     (
         "#pragma omp declare simd notinbranch\nint f(int a, int b) { return a; }\nint x;\n",
         "lanes --isa b f.c _ZGVbN4vv_f 1 1",
-        "",
-        "vfabi: f.c: X1\n",
-        1,
-    ),
-    (
-        "#pragma omp declare simd notinbranch\nint f(int a, int b) { return a / b; }\n",
-        "lanes --isa b f.c _ZGVbM4v_g 1,x",
         "",
         "vfabi: f.c: X1\n",
         1,

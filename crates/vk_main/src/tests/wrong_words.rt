@@ -9,7 +9,7 @@ pub(super) static WRONG_WORDS: [(&str, &str, &str, &str, u8); 12] = [
     (PRODUCT, "frob", "", "vfabi: words: P2\n", 2),
     (
         PRODUCT,
-        "lanes --isa c f.c N 1",
+        "lanes --isa s f.c N 1",
         "",
         "vfabi: words: P4\n",
         2,

@@ -1,10 +1,12 @@
 use Rattle.std.proofs.Common.{Bor, List, ℕ, map, sym, subst}
-use Rattle.vk_words.specs.Command.{command_of, demangle, lanes, mangle}
-use Rattle.vk_words.specs.Views.{lanes_asked, mangle_asked}
-use Rattle.vk_words.specs.declared.request.Request.{Request}
+use Rattle.vk_requests.specs.Command.{command_of, demangle, lanes, mangle}
+use Rattle.vk_words.specs.Views.{mangle_asked}
+use Rattle.vk_words_units.specs.Lanes.{lanes_asked}
+use Rattle.vk_requests.specs.declared.request.Request.{Request}
 use Rattle.vk_ends.specs.declared.ends.End.{End}
+use Rattle.vk_arguments.specs.Arguments.{given}
 use Rattle.vk_cmd_lanes.specs.Lanes.{LanesHolds}
-use Rattle.vk_cli.specs.Commands.{CommandHolds}
+use Rattle.vk_cli.specs.Commands.{CommandHolds, HasFixedLetter}
 use Rattle.vk_cli.proofs.Answered.{told_holds}
 use Rattle.vk_cli.proofs.call.carry_out.Goals as goal
 
@@ -17,7 +19,7 @@ returns-in-Demangle-clause-holds g c =
 pub returns-in-Lanes-clause-holds : goal.returns-in-Lanes-clause-holds
 returns-in-Lanes-clause-holds g c =
     let request = c.in-Lanes.request in
-    let Of : List (Bor (List ℕ)) → End → Type 0 = λ texts end. LanesHolds (record { unit = request.unit.now; name = request.name.now; arguments = map (λ text. text.now) texts })
+    let Of : List (Bor (List ℕ)) → End → Type 0 = λ texts end. LanesHolds (record { isa = request.isa; unit = request.unit.now; name = request.name.now; given = given request.mask texts; turns = request.turns })
     (g.S.Store.state c.args.store.now) (g.S.Store.state c.lanes-end.new.store) (g.O.Sink.state c.args.out.now) (g.O.Sink.state c.lanes-end.new.out) end in
     subst (λ (q : Request). CommandHolds (command_of q) (g.S.Store.state c.args.store.now) (g.S.Store.state c.lanes-end.new.store) (g.O.Sink.state c.args.out.now)
     (g.O.Sink.state c.lanes-end.new.out) c.report-in-Lanes.result) (sym c.in-Lanes.is)
@@ -29,3 +31,6 @@ returns-in-Mangle-clause-holds g c =
     subst (λ (q : Request). CommandHolds (command_of q) (g.S.Store.state c.args.store.now) (g.S.Store.state c.mangle-end.new.store) (g.O.Sink.state c.args.out.now)
     (g.O.Sink.state c.mangle-end.new.out) c.report-in-Mangle.result) (sym c.in-Mangle.is)
     (told_holds (mangle (mangle_asked c.in-Mangle.request)) _ _ _ _ c.mangle-end.result c.report-in-Mangle.result c.report-in-Mangle.ensures.end c.mangle-end.ensures)
+
+pub lanes-end-requires : goal.lanes-end-requires
+lanes-end-requires g c = record { letter = subst (λ (q : Request). HasFixedLetter (command_of q)) c.in-Lanes.is c.requires.letter }

@@ -1,7 +1,7 @@
 use Rattle.std.proofs.Common.{◌≡◌, ◌⊎◌, ◌∙◌, [], List, ℕ, Err, ap, sym, subst}
 use Rattle.vk_ends.specs.declared.ends.End.{End}
 use Rattle.vk_ends.specs.declared.ends.End.TheVariants.{Words, Memory}
-use Rattle.vk_words.specs.Command.{IsCommand, IsWordFault, files_of}
+use Rattle.vk_requests.specs.Command.{IsCommand, IsWordFault, files_of}
 use Rattle.vk_cli.specs.Commands.{CommandHolds}
 use Rattle.vk_cli.proofs.Answered.{memory_holds}
 use Rattle.vk_cli.proofs.call.vfabi.Goals as goal

@@ -47,6 +47,7 @@ emit-returns-in_ok-b-in-Binary n c =
       code = if_ok_both c.binary.result (λ d h t. binary_emits (written_of old) (written_of one) (written_of two) (written_of three) c.args.locals.now c.args.e.now.line c.args.e.now.token c.in-Binary.op left right
           c.in_ok-a-in-Binary.a c.in_ok-b-in-Binary.b d c.args.under c.requires.running c.binary.ensures.plain t first second h) c.binary.ensures.code c.binary.ensures.ty;
       params = on_ok c.binary.result (λ h. h.params ∙ (c.in_ok-b-in-Binary.ensures.params ∙ c.in_ok-a-in-Binary.ensures.params)) c.binary.ensures.base;
+      slots = on_ok c.binary.result (λ h. h.slots ∙ (c.in_ok-b-in-Binary.ensures.slots ∙ c.in_ok-a-in-Binary.ensures.slots)) c.binary.ensures.base;
       masks = on_ok c.binary.result (λ h. masks_after old.masks one.masks two.masks three.masks c.in_ok-a-in-Binary.ensures.masks c.in_ok-b-in-Binary.ensures.masks h.masks) c.binary.ensures.base;
       registers = on_ok c.binary.result (λ h. registers_after (length old.regs.items) (length one.regs.items) (length two.regs.items) (length three.regs.items) c.in_ok-a-in-Binary.ensures.registers c.in_ok-b-in-Binary.ensures.registers h.least) c.binary.ensures.base;
       count = on_ok c.binary.result (λ h. count_after (length old.regs.items) old.masks (length one.regs.items) one.masks (length two.regs.items) two.masks (length three.regs.items) three.masks (nodes_of left) (nodes_of right) few_first few_second h.most h.masks) c.binary.ensures.base;

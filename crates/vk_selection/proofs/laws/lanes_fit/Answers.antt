@@ -1,5 +1,5 @@
-use Rattle.vk_selection.proofs.Fits.{vector_few}
+use Rattle.vk_selection.proofs.Fits.{vector_few, vector_some}
 use Rattle.vk_selection.proofs.laws.lanes_fit.Goals as goal
 
 pub returns : goal.returns
-returns c = vector_few
+returns c = record { least = vector_some; most = vector_few }

@@ -1,5 +1,0 @@
-mod Faults
-mod Printed
-mod Ranges
-mod Rows
-mod Texts

@@ -1,3 +1,0 @@
-pub mod Code
-pub mod Instruction
-pub mod Lane

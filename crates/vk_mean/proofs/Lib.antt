@@ -1,2 +1,0 @@
-mod Constant
-mod Values

@@ -1,4 +1,0 @@
-pub mod Form
-pub mod Parameters
-pub mod Variant
-pub mod Inner
