@@ -1,5 +1,5 @@
 -- When the entries of a function in an image do what the function means.
-use Rattle.std.specs.Prelude.{◌≡◌, ◌≤◌, ℕ, ◌/◌, ◌%◌, Bool, true, false, cond, ◌&&◌, ◌||◌, List, [], ◌++◌, slice_get, find, Option, Some, None, bytes_eq, codes, Contains}
+use Rattle.std.specs.Prelude.{◌≡◌, ◌≤◌, ℕ, ◌/◌, ◌%◌, Bool, false, cond, ◌&&◌, ◌||◌, List, [], ◌++◌, slice_get, find, Option, Some, None, bytes_eq, codes, Contains}
 use Rattle.std.specs.Fmt.{decimal}
 use Rattle.vk_kinds.specs.declared.kinds.Length.{Length}
 use Rattle.vk_kinds.specs.declared.kinds.Param.{Param}
