@@ -24,7 +24,9 @@ abbrev mutual
   loops_of p (if_else l k test first second) = loops_of (branch_point p) first ++ loops_of (branch_point (past (loops_in first) p)) second
   loops_of p (while_loop l k test body) = loops_of (branch_point p) body
   loops_of p (do_loop l k body test) = loops_of (branch_point p) body
-  loops_of p (for_loop l k first test third body) = loops_of (branch_point (behind (head_point p) first)) body
+  loops_of p (for_loop l k first test third body) =
+      loops_of (head_point p) first
+      ++ (loops_of (behind (head_point p) first) third ++ loops_of (branch_point (behind (head_point p) first)) body)
   loops_of p (simd l k d body) = loops_of_simd (branch_point (past 1 p)) (simdlen_in d.clauses) body
   loops_of p _ = []
 
@@ -36,5 +38,6 @@ abbrev mutual
   pub loops_of_simd : Point → Option ℕ → StmtTree → List LoopText
   loops_of_simd p n (for_loop l k first test third body) =
       record { simdlen = n; outside = p; inside = branch_point (behind (head_point p) first); body = body }
-      ∷ loops_of (branch_point (behind (head_point p) first)) body
+      ∷ (loops_of (head_point p) first
+      ++ (loops_of (behind (head_point p) first) third ++ loops_of (branch_point (behind (head_point p) first)) body))
   loops_of_simd p n _ = []
