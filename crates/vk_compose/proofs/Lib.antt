@@ -1,1 +1,3 @@
+pub mod Lists
 mod Chains
+pub mod Compose
