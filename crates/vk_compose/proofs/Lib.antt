@@ -1,3 +1,4 @@
 pub mod Lists
 mod Chains
 pub mod Compose
+pub mod Levels
