@@ -2,3 +2,5 @@ pub mod Lists
 mod Chains
 pub mod Compose
 pub mod Levels
+pub mod Order
+pub mod Arrays
