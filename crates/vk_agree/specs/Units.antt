@@ -1,22 +1,24 @@
 -- Accepted units, and what they define.
-use Rattle.std.specs.Prelude.{◌≡◌, ℕ, cond, List, [], ◌∷◌, map, slice_get, Option, Some, None, bytes_eq}
+use Rattle.std.specs.Prelude.{◌≡◌, true, Contains, ℕ, cond, List, [], ◌∷◌, map, slice_get, Option, Some, None, bytes_eq}
 use Rattle.std.specs.Option.{option_or}
 use Rattle.vk_kinds.specs.declared.heads.CType.{CType}
 use Rattle.vk_kinds.specs.declared.kinds.Kind.{Kind}
 use Rattle.vk_kinds.specs.declared.kinds.Param.{Param}
 use Rattle.vk_kinds.specs.Sizes.{SignatureTree}
+use Rattle.vk_ast.specs.declared.names.NameId.{NameId}
 use Rattle.vk_ast.specs.Units.{FunctionTree, ItemTree, function, object, lost_line}
 use Rattle.vk_rules_book.specs.Directives.{signatures}
 use Rattle.vk_rules_book.specs.Rules.{Subject, faults_of}
-use Rattle.vk_rules_book.specs.Scopes.{text_of, types_of}
+use Rattle.vk_rules_book.specs.Scopes.{declares, same_name, text_of, types_of}
 use Rattle.vk_rules_laws.specs.Grammatical.{AreGrammatical}
 use Rattle.vk_meaning.specs.Programs.{Definition, defined_behind}
 
--- a unit as the grammar gives it, that breaks no rule, and of which each name has a number of its own
+-- a unit as the grammar gives it, that breaks no rule, and of which each text of a declared name is that of one name
 pub record IsAccepted (u : Subject) : Type 0 where
   pub grammatical : AreGrammatical u.items
   pub sound : faults_of u ≡ []
-  pub different : (i j : ℕ) (text other : List ℕ) → slice_get u.texts i ≡ Some text → slice_get u.texts j ≡ Some other → text ≡ other → i ≡ j
+  pub one_name : (i j : ItemTree) → Contains u.items i → Contains u.items j → (a b : NameId) → declares a i ≡ true → declares b j ≡ true →
+      text_of u.texts a ≡ text_of u.texts b → same_name a b ≡ true
 
 -- the first answer along a list
 abbrev pub first_of : {X Y : Type 0} → (X → Option Y) → List X → Option Y

@@ -4,3 +4,5 @@ pub mod Compose
 pub mod Levels
 pub mod Order
 pub mod Arrays
+pub mod Accepted
+pub mod Bridge

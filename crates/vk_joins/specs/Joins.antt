@@ -1,5 +1,5 @@
 -- When an image joins objects.
-use Rattle.std.specs.Prelude.{◌≡◌, ◌⊎◌, ℕ, ◌+◌, ◌==◌, Bool, true, false, cond, List, [], ◌∷◌, ◌++◌, flat_map, length, slice_get, unwrap_or, position, Option, Some, None, codes, bytes_eq, Contains}
+use Rattle.std.specs.Prelude.{◌≡◌, ◌⊎◌, ℕ, ◌+◌, ◌==◌, Bool, true, false, cond, List, [], ◌∷◌, ◌++◌, flat_map, length, slice_get, unwrap_or, is_some, position, Option, Some, None, codes, bytes_eq, Contains}
 use Rattle.std.specs.Option.{option_and_then}
 use Rattle.vk_kinds.specs.declared.kinds.Param.{Param}
 use Rattle.vk_kinds.specs.Sizes.{SignatureTree}
@@ -34,9 +34,13 @@ array_in_image image text = first_of (row_named text) image.arrays
 abbrev pub array_where_defined : Data → Option Array
 array_where_defined d = cond d.defined (Some d.array) None
 
--- the array that some object defines under this name
+-- the array that an object defines under this name
+abbrev pub array_defined_in : ObjectLists → (text : List ℕ) → Option Array
+array_defined_in o text = option_and_then array_where_defined (data_in_object o text)
+
+-- that of the first object that defines one
 abbrev pub defined_array : List ObjectLists → (text : List ℕ) → Option Array
-defined_array os text = first_of (λ o. option_and_then array_where_defined (data_in_object o text)) os
+defined_array os text = first_of (λ o. array_defined_in o text) os
 
 -- the number of the array with this name
 abbrev pub array_number : Tables → (text : List ℕ) → ℕ
@@ -222,8 +226,10 @@ pub record AreLoopEntries (image : Tables) (text : List ℕ) (loop : ℕ) (t : L
 
 pub record Joins (image : Tables) (os : List ObjectLists) : Type 0 where
   pub target : (o : ObjectLists) → Contains os o → image.target ≡ o.target
-  -- the arrays are the defined objects
+  -- the arrays are the defined objects, each defined by one object
   pub arrays : (text : List ℕ) → array_in_image image text ≡ defined_array os text
+  pub array_once : (i j : ℕ) (o p : ObjectLists) → slice_get os i ≡ Some o → slice_get os j ≡ Some p → (text : List ℕ) →
+      is_some (array_defined_in o text) ≡ true → is_some (array_defined_in p text) ≡ true → i ≡ j
   pub main : IsMain image image.main
   -- the entries
   pub all : (p : Planned) → Contains (planned (goal_of image) os) p → (e : ℕ) × ((x : EntryLists) × IsPlannedEntry os image e x p)
