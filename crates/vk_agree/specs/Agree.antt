@@ -10,13 +10,15 @@ use Rattle.vk_rules_book.specs.Rules.{Subject}
 use Rattle.vk_rules_book.specs.Signatures.{head_of}
 use Rattle.vk_meaning.specs.World.{Event, printed, simd_loop}
 use Rattle.vk_meaning.specs.Programs.{Definition, arrays_of, definition_of}
-use Rattle.vk_meaning.specs.Meaning.{means}
+use Rattle.vk_meaning.specs.Data.{Value}
+use Rattle.vk_meaning.specs.Meaning.{means, printed_numbers, stop_of}
 use Rattle.vk_object.specs.declared.tables.EntryKind.{EntryKind}
 use Rattle.vk_object.specs.declared.tables.EntryKind.TheVariants.{Ordinary, Scalar, N, M, Chunk, Rest}
 use Rattle.vk_object.specs.Images.{is_chunk, is_rest}
-use Rattle.vk_object.specs.Machine.{runs}
+use Rattle.vk_object.specs.Machine.{Given, runs}
+use Rattle.vk_object.specs.Memory.{printed as prints_of}
 use Rattle.vk_object.specs.Tables.{EntryLists, Tables}
-use Rattle.vk_lane.specs.Runs.{Bodies, RunsAs, RunsOnLanes}
+use Rattle.vk_lane.specs.Runs.{Bodies, RunsAs, RunsOnLanes, events_of}
 use Rattle.vk_agree.specs.Units.{param_types, kinds_of, signatures_in}
 
 -- loops may make 1 to 1000000000 turns
@@ -109,3 +111,10 @@ AgreesWhereDefined units image text (Some d) = Agrees units image text d
 -- the function with this name agrees
 abbrev pub AgreesIn : (text : List ℕ) → Tables → List Subject → Type 0
 AgreesIn text image units = AgreesWhereDefined units image text (definition_of units text)
+
+-- ---- programs
+
+-- a call of `main` prints the numbers of a reading, and ends as it ends
+pub record RunsAsRead (v : Value) (g : Given) : Type 0 where
+  pub prints : prints_of g.mem.log ≡ printed_numbers (events_of v)
+  pub ends : g.stop 0 ≡ stop_of v

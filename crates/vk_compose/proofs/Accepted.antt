@@ -1,8 +1,8 @@
 -- What accepted units keep: `print` is not defined, `main` has no parameters, and arrays have different names.
-use Rattle.std.proofs.Common.{◌≡◌, ◌⊎◌, inl, inr, ℕ, zero, suc, ◌==◌, Bool, true, false, cond, ◌&&◌, ◌||◌, not, List, [], ◌∷◌, ◌++◌, filter_map, codes, Contains, Option, Some, None, is_none, is_some, bytes_eq, refl, sym, ap, subst, ◌∙◌, arith}
+use Rattle.std.proofs.Common.{◌≡◌, ◌⊎◌, inl, inr, zero, suc, Bool, true, false, cond, ◌&&◌, ◌||◌, not, List, [], ◌∷◌, ◌++◌, filter_map, codes, Contains, Option, Some, None, is_none, bytes_eq, refl, sym, ap, subst, ◌∙◌, arith}
 use Rattle.std.specs.List.{AllByRecursion, cons_option, list_any}
 use Rattle.std.specs.Option.{option_or}
-use Rattle.std.proofs.lemmas.Bool.Decides.{Decides-eqb, nat_tests}
+use Rattle.std.proofs.lemmas.Bool.Decides.{Decides-eqb}
 use Rattle.std.proofs.lemmas.List.{append_assoc}
 use Rattle.std.proofs.lemmas.List.Elements.{Contains-append_left, Contains-append_right}
 use Rattle.std.proofs.lemmas.Slice.Eq.{bytes_eq-Decides}
@@ -16,15 +16,14 @@ use Rattle.vk_unit_rules.specs.declared.rules.UnitRule.TheVariants.{C8, C11, C12
 use Rattle.vk_rules_book.specs.declared.faults.Fault.{Fault}
 use Rattle.vk_rules_book.specs.Faults.{fault_at, when}
 use Rattle.vk_rules_book.specs.Items.{defines, disagrees, has_no_length, has_wrong_initialiser, is_plainly, is_too_large, is_wrong_again, is_wrong_main, is_wrong_print, item_faults, passes, same_ctype, same_ctypes}
-use Rattle.vk_rules_book.specs.Rules.{Subject, faults_of}
+use Rattle.vk_rules_book.specs.Rules.{Subject}
 use Rattle.vk_rules_book.specs.Scopes.{first_declaration, has_directives, is_long, is_main, is_print, same_name, text_of, types_of}
 use Rattle.vk_rules_book.specs.Visits.{Visit, along, item, item_visits}
 use Rattle.vk_rules.proofs.Quiet.{quiet_left, quiet_right, when_not}
 use Rattle.vk_rules_laws.proofs.Each.{IsQuiet, back, front, unit_quiet}
-use Rattle.vk_meaning.specs.World.{Array}
 use Rattle.vk_meaning.specs.Programs.{Definition, array_defined, array_of_object, defined_behind, defined_by, with_body}
 use Rattle.vk_agree.specs.Units.{IsAccepted, definition_in, param_types}
-use Rattle.vk_compose.proofs.Lists.{both_first, both_second, here, later}
+use Rattle.vk_compose.proofs.Lists.{both_first, both_second, here}
 use Rattle.vk_compose.proofs.Order.{AreDifferent, IsNone}
 
 -- ---- tests

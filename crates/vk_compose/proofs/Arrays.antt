@@ -1,21 +1,26 @@
 -- The arrays of an image that joins objects are those of the units, in the same order.
-use Rattle.std.proofs.Common.{◌≡◌, ℕ, Bool, true, false, cond, List, [], ◌∷◌, ◌++◌, map, flat_map, filter_map, Option, Some, None, refl, subst, sym, ap, ◌∙◌, ◌⊎◌, inl, inr, bytes_eq, Ordering, Less, Equal, Greater}
+use Rattle.std.proofs.Common.{◌≡◌, ℕ, suc, slice_get, Contains, is_some, arith, Bool, true, false, cond, List, [], ◌∷◌, ◌++◌, map, flat_map, filter_map, Option, Some, None, refl, subst, sym, ap, ◌∙◌, ◌⊎◌, inl, inr, bytes_eq, Ordering, Less, Equal, Greater}
 use Rattle.std.specs.List.{cons_option}
 use Rattle.std.specs.Option.{option_and_then, option_map, option_or}
 use Rattle.std.specs.Ordering.{is_le, is_eq}
+use Rattle.std.proofs.lemmas.List.{append_assoc}
 use Rattle.std.proofs.lemmas.Map.Text.{is_eq-slice_cmp}
 use Rattle.std.proofs.lemmas.Slice.Eq.{bytes_eq-Decides}
 use Rattle.vk_ast.specs.Units.{ItemTree}
 use Rattle.vk_rules_book.specs.Rules.{Subject}
 use Rattle.vk_meaning.specs.World.{Array}
 use Rattle.vk_meaning.specs.Programs.{array_defined, put_in, in_order, arrays_of}
+use Rattle.vk_object.specs.Images.{is_image}
+use Rattle.vk_object.specs.Objects.{ObjectLists}
 use Rattle.vk_object.specs.Tables.{Tables}
-use Rattle.vk_agree.specs.Units.{first_of}
+use Rattle.vk_agree.specs.Units.{IsAccepted, first_of}
 use Rattle.vk_joins.specs.Carries.{Pair, objects_of, units_of, HaveTables, HasArraysOf}
-use Rattle.vk_joins.specs.Joins.{Joins, array_of_row, array_where_defined, defined_array}
-use Rattle.vk_joins.specs.Tables.{Data, array_if_named, data_by, array_in, array_named, trimmed_array}
+use Rattle.vk_joins.specs.Joins.{Joins, array_defined_in, array_of_row, array_where_defined, defined_array}
+use Rattle.vk_joins.specs.Tables.{HasTables, array_if_named, data_by, array_in, array_named, declared_array, object_named, trimmed_array}
+use Rattle.vk_compose.proofs.Accepted.{arrays_differ}
+use Rattle.vk_compose.proofs.Images.{arrays_ascend}
 use Rattle.vk_compose.proofs.Lists.{here, later, first_of_map}
-use Rattle.vk_compose.proofs.Order.{order, after_is, is_up_to, same_text, EachAfter, AreAscending}
+use Rattle.vk_compose.proofs.Order.{AreAscending, AreDifferent, EachAfter, IsNone, after_is, in_order_ascends, is_up_to, order, rows_ascend, same_text}
 
 less_differs : (a b : List ℕ) → order a b ≡ Less → bytes_eq b a ≡ false
 less_differs a b h = sym (is_eq-slice_cmp b a) ∙ ap is_eq (after_is a b h)
@@ -164,16 +169,109 @@ or_trimmed : (a b : Option Array) → option_or (option_map trimmed_array a) (op
 or_trimmed None b = refl
 or_trimmed (Some a) b = refl
 
+-- what an object defines is what its unit does
+object_defines : (t : List ℕ) (p : Pair) → HasTables p.object p.unit → array_defined_in p.object t ≡ option_map trimmed_array (array_in t p.unit)
+object_defines t p h = ap (option_and_then array_where_defined) (h.objects t) ∙ defined_data (array_in t p.unit) (option_map (declared_array p.unit) (first_of (object_named t p.unit) p.unit.items))
+
 look_objects : (t : List ℕ) (ps : List Pair) → HaveTables ps → defined_array (objects_of ps) t ≡ option_map trimmed_array (first_of (array_in t) (units_of ps))
 look_objects t [] h = refl
 look_objects t (p ∷ ps) h =
-    (λ i. option_or ((ap (option_and_then array_where_defined) ((h p (here p ps)).objects t) ∙ defined_data (array_in t p.unit) _) i) (look_objects t ps (λ q k. h q (later p q ps k)) i)) ∙
+    (λ i. option_or (object_defines t p (h p (here p ps)) i) (look_objects t ps (λ q k. h q (later p q ps k)) i)) ∙
     or_trimmed (array_in t p.unit) (first_of (array_in t) (units_of ps))
 
--- THE ARRAYS: an image in order that joins objects has the arrays of the units
-pub arrays_are : (image : Tables) (ps : List Pair) → HaveTables ps → Joins image (objects_of ps) → AreAscending (map array_of_row image.arrays) → AreAscending (arrays_of (units_of ps)) →
-    HasArraysOf image (units_of ps)
-arrays_are image ps tables joins r s = same_sorted (map array_of_row image.arrays) (map trimmed_array (arrays_of (units_of ps))) r (ascending_trimmed (arrays_of (units_of ps)) s) same
+-- ---- the arrays of accepted units have different names
+
+-- all of these are found among those
+abbrev AllFound : (all xs : List Array) → Type 0
+AllFound all [] = Unit {0}
+AllFound all (x ∷ xs) = (is_some (look x.text all) ≡ true) × AllFound all xs
+
+some_behind : (a : Option Array) (x : Array) → is_some (option_or a (Some x)) ≡ true
+some_behind None x = refl
+some_behind (Some a) x = refl
+
+found_here : (before xs : List Array) (x : Array) → is_some (look x.text (before ++ x ∷ xs)) ≡ true
+found_here before xs x =
+    ap is_some (look_append x.text before (x ∷ xs) ∙ ap (option_or (look x.text before)) (look_first x xs)) ∙ some_behind (look x.text before) x
+
+all_found : (before xs : List Array) → AllFound (before ++ xs) xs
+all_found before [] = tt
+all_found before (x ∷ xs) = (found_here before xs x, subst (λ (all : List Array). AllFound all xs) (append_assoc before (x ∷ []) xs) (all_found (before ++ x ∷ []) xs))
+
+none_look : (t : List ℕ) (xs : List Array) → look t xs ≡ None → IsNone t xs
+none_look t [] h = tt
+none_look t (x ∷ xs) h = at (bytes_eq x.text t) refl h (λ k. none_look t xs k)
+  where
+    other : bytes_eq x.text t ≡ false → bytes_eq t x.text ≡ false
+    other e = swapped (bytes_eq t x.text) refl
+      where
+        swapped : (b : Bool) → bytes_eq t x.text ≡ b → b ≡ false
+        swapped false k = refl
+        swapped true k = sym (same_text x.text) ∙ (subst (λ (u : List ℕ). bytes_eq x.text u ≡ false) ((bytes_eq-Decides t x.text).0 k) e)
+
+    at : (b : Bool) → bytes_eq x.text t ≡ b → option_or (cond b (Some x) None) (look t xs) ≡ None → (look t xs ≡ None → IsNone t xs) → IsNone t (x ∷ xs)
+    at true e k next = cc
+    at false e k next = (other e, next k)
+
+none_both : (t : List ℕ) (xs ys : List Array) → IsNone t xs → IsNone t ys → IsNone t (xs ++ ys)
+none_both t [] ys h k = k
+none_both t (x ∷ xs) ys h k = (h.0, none_both t xs ys h.1 k)
+
+differ_both : (all xs ys : List Array) → AreDifferent xs → AreDifferent ys → AllFound all xs → ((t : List ℕ) → is_some (look t all) ≡ true → IsNone t ys) → AreDifferent (xs ++ ys)
+differ_both all [] ys h k f other = k
+differ_both all (x ∷ xs) ys h k f other = (none_both x.text xs ys h.0 (other x.text f.0), differ_both all xs ys h.1 k f.1 other)
+
+-- each array is defined by one object
+abbrev AreOnce : List ObjectLists → Type 0
+AreOnce os = (i j : ℕ) (o p : ObjectLists) → slice_get os i ≡ Some o → slice_get os j ≡ Some p → (text : List ℕ) →
+    is_some (array_defined_in o text) ≡ true → is_some (array_defined_in p text) ≡ true → i ≡ j
+
+abbrev pub AllAccepted : List Pair → Type 0
+AllAccepted ps = (p : Pair) → Contains ps p → IsAccepted p.unit
+
+no_array_in : (t : List ℕ) (ps : List Pair) → HaveTables ps → ((k : ℕ) (o : ObjectLists) → slice_get (objects_of ps) k ≡ Some o → is_some (array_defined_in o t) ≡ true → ⊥) → first_of (array_in t) (units_of ps) ≡ None
+no_array_in t [] h never = refl
+no_array_in t (p ∷ ps) h never =
+    at (array_in t p.unit) (ap is_some (object_defines t p (h p (here p ps)))) (no_array_in t ps (λ q k. h q (later p q ps k)) (λ k o e d. never (suc k) o e d))
+  where
+    at : (a : Option Array) → is_some (array_defined_in p.object t) ≡ is_some (option_map trimmed_array a) → first_of (array_in t) (units_of ps) ≡ None → option_or a (first_of (array_in t) (units_of ps)) ≡ None
+    at None e k = k
+    at (Some a) e k = absurd (never 0 p.object refl e)
+
+arrays_of_units_differ : (ps : List Pair) → AllAccepted ps → HaveTables ps → AreOnce (objects_of ps) → AreDifferent (flat_map (λ (u : Subject). filter_map (array_defined u) u.items) (units_of ps))
+arrays_of_units_differ [] accepted tables once = tt
+arrays_of_units_differ (p ∷ ps) accepted tables once =
+    differ_both own own (flat_map (λ (u : Subject). filter_map (array_defined u) u.items) (units_of ps)) (arrays_differ p.unit (accepted p (here p ps)))
+    (arrays_of_units_differ ps (λ q k. accepted q (later p q ps k)) (λ q k. tables q (later p q ps k)) (λ i j o q a b t c d. less i j (once (suc i) (suc j) o q a b t c d))) (all_found [] own) none
+  where
+    own : List Array
+    own = filter_map (array_defined p.unit) p.unit.items
+
+    less : (i j : ℕ) → suc i ≡ suc j → i ≡ j
+    less i j e = omega arith
+
+    defines : (t : List ℕ) → is_some (look t own) ≡ true → is_some (array_defined_in p.object t) ≡ true
+    defines t h = ap is_some (object_defines t p (tables p (here p ps))) ∙ some_trimmed (array_in t p.unit) (sym (ap is_some (look_items t p.unit p.unit.items)) ∙ h)
+      where
+        some_trimmed : (a : Option Array) → is_some a ≡ true → is_some (option_map trimmed_array a) ≡ true
+        some_trimmed None k = k
+        some_trimmed (Some a) k = refl
+
+    never : (t : List ℕ) → is_some (look t own) ≡ true → (k : ℕ) (o : ObjectLists) → slice_get (objects_of ps) k ≡ Some o → is_some (array_defined_in o t) ≡ true → ⊥
+    never t h k o e d = omega (arith, once 0 (suc k) p.object o refl e t (defines t h) d)
+
+    none : (t : List ℕ) → is_some (look t own) ≡ true → IsNone t (flat_map (λ (u : Subject). filter_map (array_defined u) u.items) (units_of ps))
+    none t h = none_look t (flat_map (λ (u : Subject). filter_map (array_defined u) u.items) (units_of ps))
+        (look_units t (units_of ps) ∙ no_array_in t ps (λ q k. tables q (later p q ps k)) (never t h))
+
+units_ascend : (image : Tables) (ps : List Pair) → AllAccepted ps → HaveTables ps → Joins image (objects_of ps) → AreAscending (arrays_of (units_of ps))
+units_ascend image ps accepted tables joins = in_order_ascends (flat_map (λ (u : Subject). filter_map (array_defined u) u.items) (units_of ps)) (arrays_of_units_differ ps accepted tables joins.array_once)
+
+-- THE ARRAYS: an image that joins objects has the arrays of the units
+pub arrays_are : (image : Tables) (ps : List Pair) → is_image image ≡ true → AllAccepted ps → HaveTables ps → Joins image (objects_of ps) → HasArraysOf image (units_of ps)
+arrays_are image ps valid accepted tables joins =
+    same_sorted (map array_of_row image.arrays) (map trimmed_array (arrays_of (units_of ps))) (rows_ascend image.arrays (arrays_ascend image valid))
+    (ascending_trimmed (arrays_of (units_of ps)) (units_ascend image ps accepted tables joins)) same
   where
     same : (t : List ℕ) → look t (map array_of_row image.arrays) ≡ look t (map trimmed_array (arrays_of (units_of ps)))
     same t =

@@ -12,7 +12,7 @@ use Rattle.vk_rules_book.specs.Rules.{Subject}
 use Rattle.vk_rules_book.specs.Scopes.{text_of}
 use Rattle.vk_meaning.specs.Points.{Point}
 use Rattle.vk_meaning.specs.Programs.{Definition, defined_behind, first_point, with_body}
-use Rattle.vk_code.specs.Listing.{CallSite, LoopBody, Routine, SimdSite}
+use Rattle.vk_code.specs.Listing.{CallSite, Routine, SimdSite}
 use Rattle.vk_object.specs.Images.{is_image}
 use Rattle.vk_object.specs.Objects.{CodeLists, FunctionLists, ObjectLists}
 use Rattle.vk_object.specs.Tables.{Tables}
@@ -21,7 +21,7 @@ use Rattle.vk_sites.specs.Calls.{CallText, calls_of}
 use Rattle.vk_sites.specs.Loops.{LoopText}
 use Rattle.vk_sites.specs.Shapes.{loop_view}
 use Rattle.vk_agree.specs.Units.{IsAccepted, definition_in, first_of, function_in, function_named, signatures_in}
-use Rattle.vk_joins.specs.Carries.{Pair, objects_of, units_of, Carries, AreCarried, ImageCarries, IsLinkOf}
+use Rattle.vk_joins.specs.Carries.{Pair, objects_of, units_of, AreCarried, ImageCarries, IsLinkOf}
 use Rattle.vk_joins.specs.Codes.{AreBodiesOf, AreCodesOf, AreSame, Call, HasCodes, IsBodyOf, Manner, call_made, call_told, calls_made, calls_told, lanes, own_calls, plain, symbols_of}
 use Rattle.vk_joins.specs.Joins.{Joins, IsChosen}
 use Rattle.vk_joins.specs.Links.{AreLinkable, CallsIn, Defines, DefinesFunction, DefinesObject, DoObjectsLink, DoUnitsLink, IsChainFrom, IsSameData, IsSameFunction, Table, callees_in, callees_of, code_calls, code_uses, codes_in, loop_calls, loop_names, objects_used, slot_names, table_of_object, table_of_unit}

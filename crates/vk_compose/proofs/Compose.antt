@@ -1,7 +1,6 @@
 -- Objects that carry units, linked, carry the units: every function agrees with the image, by the order of calls.
 use Rattle.std.proofs.Common.{◌≡◌, ℕ, zero, suc, ◌≤◌, true, List, [], ◌∷◌, map, length, Option, Some, None, refl, subst, sym, ap, arith, ◌∙◌, Contains}
 use Rattle.std.specs.Option.{option_or}
-use Rattle.vk_rules_book.specs.Rules.{Subject}
 use Rattle.vk_meaning.specs.Programs.{Definition, definition_of}
 use Rattle.vk_meaning_terms.specs.Depth.{IsShallow}
 use Rattle.vk_object.specs.Images.{is_image}

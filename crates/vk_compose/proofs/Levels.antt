@@ -1,5 +1,5 @@
 -- What an entry does hangs on the entries that it calls alone: where its calls are at most so many deep, more depth changes nothing.
-use Rattle.std.proofs.Common.{◌≡◌, ℕ, zero, suc, ◌-◌, ◌≤◌, ◌&&◌, ◌==◌, Bool, true, false, cond, min, List, [], ◌∷◌, length, slice_get, Option, Some, None, refl, subst, ap, arith, ◌∙◌}
+use Rattle.std.proofs.Common.{◌≡◌, ℕ, zero, suc, ◌-◌, ◌≤◌, ◌&&◌, ◌==◌, Bool, true, cond, min, List, [], ◌∷◌, length, slice_get, Option, Some, None, refl, subst, ap, arith, ◌∙◌}
 use Rattle.std.specs.List.{list_all}
 use Rattle.std.specs.Option.{option_map, option_and_then}
 use Rattle.vk_code.specs.declared.instruction.Instr.{Instr}

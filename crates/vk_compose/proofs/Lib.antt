@@ -3,6 +3,8 @@ mod Chains
 pub mod Compose
 pub mod Levels
 pub mod Order
-pub mod Arrays
+pub mod Images
 pub mod Accepted
+pub mod Arrays
 pub mod Bridge
+pub mod Program

@@ -1,5 +1,5 @@
 -- Lists: what stands in them, and the first answer along them.
-use Rattle.std.proofs.Common.{◌≡◌, ℕ, zero, suc, ◌<◌, ◌&&◌, Bool, true, false, cond, List, [], ◌∷◌, ◌++◌, map, filter, filter_map, length, slice_get, slice_index_or, Option, Some, None, refl, subst, sym, ap, arith, ◌∙◌, ◌⊎◌, inl, inr, Contains}
+use Rattle.std.proofs.Common.{◌≡◌, ℕ, zero, suc, ◌<◌, ◌&&◌, Bool, true, false, cond, List, [], ◌∷◌, map, filter, filter_map, slice_get, slice_index_or, Option, Some, None, refl, subst, sym, ap, arith, ◌∙◌, ◌⊎◌, inl, inr, Contains}
 use Rattle.std.specs.List.{cons_option}
 use Rattle.std.specs.Option.{option_map, option_or}
 use Rattle.std.proofs.lemmas.List.{length-map, get_or-map}

@@ -1,5 +1,5 @@
 -- Names in ascending order, byte by byte: of the arrays of an image, and of those of units.
-use Rattle.std.proofs.Common.{◌≡◌, ◌≢◌, ◌<◌, ℕ, ◌==◌, nat_lt, ◌&&◌, ◌||◌, Bool, true, false, cond, List, [], ◌∷◌, map, refl, subst, sym, ap, ◌∙◌, arith, bytes_eq, Ordering, Less, Equal, Greater, nat_cmp}
+use Rattle.std.proofs.Common.{◌≡◌, ◌<◌, ℕ, ◌==◌, nat_lt, ◌&&◌, ◌||◌, Bool, true, false, cond, List, [], ◌∷◌, map, refl, ap, ◌∙◌, arith, bytes_eq, Ordering, Less, Equal, Greater, nat_cmp}
 use Rattle.std.specs.Ordering.{is_le, is_lt, is_eq, ordering_reverse, MatchOrdering}
 use Rattle.std.specs.Cmp.Lexicographic.{slice_cmp}
 use Rattle.std.proofs.lemmas.Bool.Decides.{nat_tests}
