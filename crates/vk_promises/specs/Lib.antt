@@ -1,0 +1,4 @@
+pub mod Settings
+pub mod Loops
+pub mod Codes
+pub mod Makers
