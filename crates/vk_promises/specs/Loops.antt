@@ -4,7 +4,7 @@ use Rattle.vk_types.specs.Numbers.{word_of}
 use Rattle.vk_kinds.specs.declared.heads.CType.{CType}
 use Rattle.vk_kinds.specs.declared.heads.CType.TheVariants.{Void}
 use Rattle.vk_rules_book.specs.declared.contexts.Binding.{Binding}
-use Rattle.vk_meaning.specs.World.{Array, Memory as Cells, printed, simd_loop}
+use Rattle.vk_meaning.specs.World.{Array, Memory as Cells, simd_loop}
 use Rattle.vk_meaning.specs.Data.{Datum, number, pointer, nothing, Value, got, halts}
 use Rattle.vk_meaning.specs.Expressions.{Context, Variables, with_datum}
 use Rattle.vk_meaning.specs.Guards.{Base, object, parameter, base_array, guard_holds, guard_pairs, stored_bases}
@@ -109,10 +109,4 @@ pub record LoopIsRight (t : Setting) (text : List ℕ) (l : LoopText) (loop : �
   pub rest : RunsRest t.context t.bodies l targets.rest (t.site.calls targets.rest)
   pub chunk_counts : (n : ℕ) (apart : Bool) → t.bodies.calls targets.chunk (simd_loop text (loop + 1) n apart) ≡ cond apart (n / entry.lanes) 0
   pub rest_counts : (n : ℕ) (apart : Bool) → t.bodies.calls targets.rest (simd_loop text (loop + 1) n apart) ≡ cond apart (n % entry.lanes) n
-
--- no other body is called for an event of this function, and none for a printed number
-pub record CountsAreOwn (t : Setting) (text : List ℕ) : Type 0 where
-  pub printed_counts : (entry : ℕ) (z : ℤ) → t.bodies.calls entry (printed z) ≡ 0
-  pub other_counts : (entry loop n : ℕ) (apart : Bool) →
-      ((x : LoopTargets) → slice_get t.site.entry.loops loop ≡ Some x → (entry ≢ x.chunk) × (entry ≢ x.rest)) →
-      t.bodies.calls entry (simd_loop text (loop + 1) n apart) ≡ 0
+  pub other_counts : (other n : ℕ) (apart : Bool) → other ≢ targets.chunk → other ≢ targets.rest → t.bodies.calls other (simd_loop text (loop + 1) n apart) ≡ 0

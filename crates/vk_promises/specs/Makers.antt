@@ -1,8 +1,9 @@
 -- What the makers of codes promise.
-use Rattle.std.specs.Prelude.{◌≡◌, ◌≢◌, ◌<◌, ℕ, take, true, List, [], map, length, slice_get, unwrap_or, Some, None}
+use Rattle.std.specs.Prelude.{◌≡◌, ◌≢◌, ◌<◌, ℕ, take, true, List, [], map, length, slice_get, unwrap_or, Some, None, ℤ}
 use Rattle.vk_kinds.specs.Sizes.{SignatureTree}
 use Rattle.vk_kinds.specs.Types.{ctype_number}
 use Rattle.vk_rules_book.specs.Scopes.{text_of}
+use Rattle.vk_meaning.specs.World.{printed}
 use Rattle.vk_meaning.specs.Programs.{Definition, first_point}
 use Rattle.vk_code.specs.Listing.{Listing, Routine, SimdSite}
 use Rattle.vk_code.specs.Valid.{IsValid, is_good_routine}
@@ -18,7 +19,7 @@ use Rattle.vk_joins.specs.Codes.{AreSame, IsCodeOf, Symbols, calls_made, calls_t
 use Rattle.vk_joins.specs.Linked.{IsLinked}
 use Rattle.vk_joins.specs.Links.{body_calls, loop_calls}
 use Rattle.vk_promises.specs.Codes.{AreGoodBodies, HasTypesOf, IsClosed, IsOpenSite, given_types}
-use Rattle.vk_promises.specs.Loops.{CountsAreOwn, LoopIsRight, RunsChunk, RunsRest}
+use Rattle.vk_promises.specs.Loops.{LoopIsRight, RunsChunk, RunsRest}
 use Rattle.vk_promises.specs.Settings.{CallsAreLocal, CallsAreRight, CallsAreUniform, HasObjects, IsMachine, RunsCode, Setting, body_value}
 
 -- ---- settings of a function
@@ -33,7 +34,8 @@ pub record IsSetting (d : Definition) (y : Symbols) (c : Listing) (t : Setting) 
   pub runs : RunsCode y c t entry
   pub calls : CallsAreRight t (own_calls d.unit (body_calls d))
   pub loops : (loop : ℕ) (l : LoopText) → slice_get (own_loops d) loop ≡ Some l → LoopIsRight t t.context.text l loop
-  pub counts : CountsAreOwn t t.context.text
+  -- no body is called for a printed number
+  pub prints : (other : ℕ) (z : ℤ) → t.bodies.calls other (printed z) ≡ 0
 
 -- the called functions have directives
 abbrev pub IsLocal : Definition → Setting → Type 0
