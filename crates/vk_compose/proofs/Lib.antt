@@ -1,5 +1,5 @@
 pub mod Lists
-mod Chains
+pub mod Chains
 pub mod Compose
 pub mod Levels
 pub mod Order

@@ -1,2 +1,4 @@
 mod Ends
 mod Targets
+mod Within
+mod Made
