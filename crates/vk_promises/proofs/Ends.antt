@@ -1,13 +1,12 @@
 -- The two ends: from a setting that an image gives to the agreement of a function, and from what units mean to a setting.
-use Rattle.std.proofs.Common.{◌≡◌, ℕ, Bool, true, false, cond, List, [], ◌∷◌, Some, refl, subst, sym, ap, ◌∙◌}
+use Rattle.std.proofs.Common.{◌≡◌, ℕ, Bool, true, false, List, [], ◌∷◌, Some, refl, subst, sym, ap, ◌∙◌}
 use Rattle.std.proofs.lemmas.List.{append-nil}
 use Rattle.vk_kinds.specs.declared.kinds.Kind.{Kind}
-use Rattle.vk_ast.specs.declared.names.NameId.{NameId}
 use Rattle.vk_rules_book.specs.Rules.{Subject}
 use Rattle.vk_rules_book.specs.Scopes.{is_print, text_of}
 use Rattle.vk_meaning.specs.World.{Event, Memory as Cells, World}
 use Rattle.vk_meaning.specs.Data.{Datum, Value, got, nothing}
-use Rattle.vk_meaning.specs.Meaning.{call_by, call_of, called_where_defined, context_of, means, print_first}
+use Rattle.vk_meaning.specs.Meaning.{call_by, call_of, called_where_defined, means, print_first}
 use Rattle.vk_meaning.specs.Programs.{Definition, definition_of, arrays_of}
 use Rattle.vk_meaning_laws.specs.Reach.{behind_events}
 use Rattle.vk_object.specs.Machine.{Called, Site, enters, enters_some, entry_at, runs, site_of}
@@ -15,14 +14,11 @@ use Rattle.vk_object.specs.Tables.{Tables}
 use Rattle.vk_lane.specs.Runs.{RunsAs, RunsOnLanes}
 use Rattle.vk_agree.specs.Agree.{bodies_of}
 use Rattle.vk_agree.specs.Units.{param_types}
-use Rattle.vk_promises.specs.Settings.{CallsAreUniform, Setting, body_value, scalar_call}
-
--- the setting of a function of the units in an image: the scalar meaning of calls is that of the units
-abbrev pub setting_of : List Subject → Tables → (turns : ℕ) → Definition → Site → (List ℕ → ℕ) → Setting
-setting_of units image turns d s array = record { context = context_of units turns (call_of units turns) d; site = s; bodies = bodies_of image; array = array }
+use Rattle.vk_promises.specs.Places.{setting_of}
+use Rattle.vk_promises.specs.Settings.{CallsAreUniform, body_value}
 
 -- a call means a call of the definition, whose own calls are such calls again
-abbrev Unfolds : List Subject → (turns : ℕ) → (text : List ℕ) → Type 0
+abbrev pub Unfolds : List Subject → (turns : ℕ) → (text : List ℕ) → Type 0
 Unfolds units turns text = call_of units turns text ≡ called_where_defined units turns (call_of units turns) (definition_of units text)
 
 -- so the body's meaning in this setting is the function's
@@ -54,7 +50,7 @@ agrees_on_lanes_from units image turns e lanes kinds text d s array h k site r =
 -- ---- calls stand in any run
 
 -- a call in the midst of a run does what it does from its memory
-abbrev StandsInAnyRun : List Subject → (turns : ℕ) → Type 0
+abbrev pub StandsInAnyRun : List Subject → (turns : ℕ) → Type 0
 StandsInAnyRun units turns = (text : List ℕ) (ds : List Datum) (w : World) → call_of units turns text ds w ≡ behind_events w.events (means units turns text ds w.memory)
 
 print_uniform : (ds : List Datum) (w : World) → print_first ds w ≡ behind_events w.events (print_first ds (record { memory = w.memory; events = [] }))

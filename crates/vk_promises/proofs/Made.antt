@@ -1,7 +1,7 @@
 -- The codes that the makers promise are the codes of a function.
-use Rattle.std.proofs.Common.{◌≡◌, ℕ, zero, suc, ◌==◌, ◌&&◌, Bool, true, false, List, [], ◌∷◌, ◌++◌, map, flat_map, length, take, slice_get, is_none, Option, Some, None, refl, subst, sym, ap, arith, ◌∙◌, ◌⊎◌, inl, inr, Contains}
+use Rattle.std.proofs.Common.{◌≡◌, ℕ, zero, suc, ◌==◌, ◌&&◌, Bool, true, false, List, [], ◌∷◌, map, flat_map, length, take, slice_get, is_none, Some, refl, subst, sym, ap, arith, ◌∙◌, ◌⊎◌, inl, inr, Contains}
 use Rattle.std.proofs.lemmas.Bool.Decides.{Decides-eqb}
-use Rattle.std.proofs.lemmas.List.Elements.{Contains-append_left, Contains-append_right, Contains-append_cases}
+use Rattle.std.proofs.lemmas.List.Elements.{Contains-append_left, Contains-append_cases}
 use Rattle.vk_kinds.specs.declared.heads.CType.{CType}
 use Rattle.vk_kinds.specs.Sizes.{SignatureTree}
 use Rattle.vk_kinds.specs.Types.{ctype_number}
@@ -9,7 +9,7 @@ use Rattle.vk_ast.specs.declared.names.NameId.{NameId}
 use Rattle.vk_rules_book.specs.Rules.{Subject}
 use Rattle.vk_rules_book.specs.Scopes.{text_of}
 use Rattle.vk_meaning.specs.Programs.{Definition, first_point}
-use Rattle.vk_code.specs.Listing.{Listing, LoopBody, Routine, SimdSite, own, reg_type}
+use Rattle.vk_code.specs.Listing.{Listing, LoopBody, Routine, SimdSite, reg_type}
 use Rattle.vk_code.specs.Tests.{pairs}
 use Rattle.vk_code.specs.Valid.{body_regs, has_params, is_good_body, is_good_routine, is_type_of}
 use Rattle.vk_object.specs.Objects.{CodeLists}
@@ -20,7 +20,7 @@ use Rattle.vk_joins.specs.Codes.{AreBodiesOf, AreCodesOf, AreLaneCodesOf, AreSam
 use Rattle.vk_compose.proofs.Chains.{Every}
 use Rattle.vk_compose.proofs.Lists.{contains_map, unmap}
 use Rattle.vk_promises.specs.Codes.{AreGoodBodies, HasOpenSite, IsClosed, IsClosedSite, IsOpenSite, given_types}
-use Rattle.vk_promises.specs.Makers.{IsBodyCode, IsLaneCode, IsScalarCode}
+use Rattle.vk_promises.specs.Makers.{AllBodies, AllLaneCodes, AreMade, IsBodyCode, IsScalarCode}
 use Rattle.vk_promises.proofs.Within.{Within, inside_of}
 
 -- ---- the bodies
@@ -66,10 +66,6 @@ good_body y d l c rs b f e =
     (same_types c (take b.params b.regs) rs (f.types ∙ sym e))) f.good
 
 -- ---- the closed code of a function
-
--- the bodies that were put in place are those that the maker of bodies made
-abbrev pub AllBodies : Symbols → Definition → Listing → Type 0
-AllBodies y d closed = (loop : ℕ) (l : LoopText) (u : SimdSite) (body : Routine) → slice_get (own_loops d) loop ≡ Some l → slice_get closed.loops loop ≡ Some u → u.body ≡ own body → IsBodyCode y d l body
 
 closed_types : (c t : Routine) (l : LoopText) (s u : SimdSite) (body : Routine) → t ≡ c → IsClosedSite l s u body → IsOpenSite c l s → map (reg_type t.regs) (body_regs u) ≡ map ctype_number (given_types l)
 closed_types c t l s u body h k o = (λ i. reg_type (h i).regs (k.low i) ∷ map (reg_type (h i).regs) (k.captures i)) ∙ o.types
@@ -141,25 +137,17 @@ module _ (y : Symbols) (d : Definition) (signatures : List SignatureTree) (c clo
   closed_short : IsShort closed.routine (function_size d)
   closed_short = subst (λ (r : Routine). IsShort r (function_size d)) (sym is.routine) flat.short
 
--- the codes of the directives
-abbrev pub AllMade : Symbols → Definition → List SignatureTree → List Listing → Type 0
-AllMade y d [] [] = Unit {0}
-AllMade y d [] (c ∷ cs) = ⊥
-AllMade y d (s ∷ ss) [] = ⊥
-AllMade y d (s ∷ ss) (c ∷ cs) = IsLaneCode y d s c × AllMade y d ss cs
-
-lane_codes_are : (y : Symbols) (d : Definition) (ss : List SignatureTree) (cs : List Listing) → AllMade y d ss cs → AreLaneCodesOf y d ss cs
+lane_codes_are : (y : Symbols) (d : Definition) (ss : List SignatureTree) (cs : List Listing) → AllLaneCodes y d ss cs → AreLaneCodesOf y d ss cs
 lane_codes_are y d [] [] h = tt
 lane_codes_are y d [] (c ∷ cs) h = absurd h
 lane_codes_are y d (s ∷ ss) [] h = absurd h
 lane_codes_are y d (s ∷ ss) (c ∷ cs) h = (record { is = h.0.is; short = h.0.short }, lane_codes_are y d ss cs h.1)
 
 -- THE CODES: what the makers promise makes the codes of a function
-pub codes_are : (y : Symbols) (d : Definition) (signatures : List SignatureTree) (codes : CodeLists) (c : Listing) → IsScalarCode y d signatures c →
-    IsClosed (own_loops d) c codes.scalar → AllBodies y d codes.scalar → AllMade y d signatures codes.lanes → AreCodesOf y d signatures codes
-codes_are y d signatures codes c flat is bodies lanes = record {
-  scalar = closed_code y d signatures c codes.scalar flat is bodies;
-  bodies = all_bodies y d signatures c codes.scalar flat is bodies;
-  scalar_short = closed_short y d signatures c codes.scalar flat is bodies;
-  directives = lane_codes_are y d signatures codes.lanes lanes;
+pub codes_are : (y : Symbols) (d : Definition) (signatures : List SignatureTree) (codes : CodeLists) → AreMade y d signatures codes → AreCodesOf y d signatures codes
+codes_are y d signatures codes h = record {
+  scalar = closed_code y d signatures h.open_code codes.scalar h.scalar h.closed h.bodies;
+  bodies = all_bodies y d signatures h.open_code codes.scalar h.scalar h.closed h.bodies;
+  scalar_short = closed_short y d signatures h.open_code codes.scalar h.scalar h.closed h.bodies;
+  directives = lane_codes_are y d signatures codes.lanes h.directives;
 }

@@ -1,5 +1,5 @@
 -- A target that an image gives a slot does what the call means, where the callee agrees with the image.
-use Rattle.std.proofs.Common.{◌≡◌, ℕ, ◌+◌, ◌==◌, ◌&&◌, not, Bool, true, false, cond, List, [], ◌∷◌, map, filter_map, slice_get, Option, Some, None, refl, subst, sym, ap, arith, ◌∙◌, ◌⊎◌, inl, inr, Contains}
+use Rattle.std.proofs.Common.{◌≡◌, ℕ, ◌+◌, ◌==◌, ◌&&◌, not, Bool, true, false, cond, List, [], ◌∷◌, map, filter_map, slice_get, Option, Some, None, subst, sym, ap, arith, ◌∙◌, ◌⊎◌, inl, inr, Contains}
 use Rattle.std.proofs.lemmas.List.Elements.{Contains-append_cases}
 use Rattle.std.proofs.lemmas.Bool.Decides.{Decides-eqb}
 use Rattle.vk_kinds.specs.declared.heads.CType.{CType}
@@ -10,8 +10,7 @@ use Rattle.vk_kinds.specs.declared.kinds.Target.{Target}
 use Rattle.vk_kinds.specs.Lengths.{lanes_at, lengths}
 use Rattle.vk_kinds.specs.Sizes.{HeadTypes, SignatureTree, wds}
 use Rattle.vk_rules_book.specs.Rules.{Subject}
-use Rattle.vk_rules_book.specs.Scopes.{is_print, text_of}
-use Rattle.vk_rules_book.specs.Signatures.{head_of}
+use Rattle.vk_rules_book.specs.Scopes.{text_of}
 use Rattle.vk_meaning.specs.World.{Memory as Cells}
 use Rattle.vk_meaning.specs.Data.{Datum, Value}
 use Rattle.vk_meaning.specs.Meaning.{call_by, call_of, means}
@@ -21,23 +20,20 @@ use Rattle.vk_code.specs.declared.code.SlotArg.{SlotArg}
 use Rattle.vk_code.specs.Listing.{CallSite}
 use Rattle.vk_object.specs.declared.tables.EntryKind.{EntryKind}
 use Rattle.vk_object.specs.declared.tables.EntryKind.TheVariants.{Ordinary, Scalar}
-use Rattle.vk_object.specs.Images.{is_within}
-use Rattle.vk_object.specs.Machine.{Called, Site, entry_at, runs}
+use Rattle.vk_object.specs.Machine.{Called, Site, runs}
 use Rattle.vk_object.specs.Objects.{FunctionLists, ObjectLists}
 use Rattle.vk_object.specs.Tables.{EntryLists, Tables}
 use Rattle.vk_lane.specs.Runs.{RunsAs, RunsOnLanes}
 use Rattle.vk_sites.specs.Calls.{CallText}
-use Rattle.vk_agree.specs.Agree.{Agrees, IsEntry, IsTurnLimit, IsVariant, IsVariantKind, bodies_of}
-use Rattle.vk_agree.specs.Units.{kinds_of, param_types, signatures_in}
+use Rattle.vk_agree.specs.Agree.{IsVariant, IsVariantKind, bodies_of}
+use Rattle.vk_agree.specs.Units.{kinds_of, param_types}
 use Rattle.vk_joins.specs.Choice.{Candidate, Goal, all_match, candidates, candidates_of, is_allowed, is_fitting, is_usable, usable, usable_from, variants_of, with_lanes}
 use Rattle.vk_joins.specs.Codes.{slot_shapes}
-use Rattle.vk_joins.specs.Joins.{IsScalarEntry, IsSomeOf, IsTarget, IsTargetBy, IsVariantEntry, Made, callee_of, choices, goal_of, is_whole, kind_of_variant}
-use Rattle.vk_joins.specs.Linked.{IsLinkedSlot}
-use Rattle.vk_compose.proofs.Images.{HasLanesOf}
+use Rattle.vk_joins.specs.Joins.{IsScalarEntry, IsSomeOf, IsTargetBy, IsVariantEntry, Made, choices, goal_of, is_whole, kind_of_variant}
 use Rattle.vk_compose.proofs.Levels.{deeper}
 use Rattle.vk_compose.proofs.Lists.{both_first, both_second, given, here, kept, later}
 use Rattle.vk_promises.specs.Settings.{MayCall, MayCallVariant, Setting, kinds_in, scalar_call, types_called}
-use Rattle.vk_promises.proofs.Ends.{setting_of}
+use Rattle.vk_promises.specs.Places.{IsLinkedCall, TellsOf, setting_of}
 
 -- ---- a candidate is a variant of its function
 
@@ -90,14 +86,6 @@ is_candidate goal m x slot r c e h =
 
 -- ---- the target
 
--- The caller's object tells of the callee what its definition says; of its directives it may tell none.
-pub record TellsOf (o : ObjectLists) (slot : CallSite) (text : List ℕ) (f : Definition) : Type 0 where
-  pub row : FunctionLists
-  pub at : slice_get o.functions slot.function ≡ Some row
-  pub target : o.target ≡ f.unit.target
-  pub head : row.head ≡ head_of f.function
-  pub signatures : (s : SignatureTree) → Contains row.directives s → Contains (signatures_in text f.unit) s
-
 variant_kind : (b : Bool) (k : EntryKind) → k ≡ kind_of_variant b → IsVariantKind k
 variant_kind true k e = subst IsVariantKind (sym e) tt
 variant_kind false k e = subst IsVariantKind (sym e) tt
@@ -117,10 +105,8 @@ may_variant t c slot n y true h = h
 may_variant t c slot n y false h = h
 
 -- THE TARGET: what the entry that an image gives a slot does is what the call means
-module _ (units : List Subject) (image : Tables) (turns n : ℕ) (d : Definition) (s : Site) (array : List ℕ → ℕ) (c : CallText) (m : Made) (slot linked : CallSite) (y : EntryLists) (f : Definition)
-    (limit : IsTurnLimit turns) (l : IsLinkedSlot slot linked) (t : TellsOf m.object slot (text_of d.unit.texts c.callee) f) (own : is_print d.unit.texts c.callee ≡ false) (types : types_called c ≡ param_types f)
-    (a : Agrees units image (text_of d.unit.texts c.callee) f) (entry : IsEntry image n y) (within : is_within image 63 n ≡ true) (calls : s.calls ≡ entry_at image turns 63)
-    (lanes : HasLanesOf y.kind y.lanes) (caller : y.kind ≡ Ordinary → s.entry.kind ≡ Ordinary) where
+module _ (units : List Subject) (image : Tables) (turns : ℕ) (d : Definition) (s : Site) (array : List ℕ → ℕ) (c : CallText) (m : Made) (slot linked : CallSite) (n : ℕ) (y : EntryLists) (f : Definition)
+    (q : IsLinkedCall units image turns d s c m slot linked n y f) where
   abbrev text : List ℕ
   text = text_of d.unit.texts c.callee
 
@@ -129,22 +115,22 @@ module _ (units : List Subject) (image : Tables) (turns n : ℕ) (d : Definition
 
   -- the name is not that of the built-in function
   means_it : means units turns text ≡ scalar_call place.context c.callee
-  means_it = λ i ds cells. call_by (call_of units turns) (sym own i) text ds (record { memory = cells; events = [] })
+  means_it = λ i ds cells. call_by (call_of units turns) (sym q.own i) text ds (record { memory = cells; events = [] })
 
   runs_here : runs image turns n ≡ s.calls n
-  runs_here = sym (deeper image turns 63 64 n (omega arith) within) ∙ ap (λ (g : ℕ → Called). g n) (sym calls)
+  runs_here = sym (deeper image turns 63 64 n (omega arith) q.within) ∙ ap (λ (g : ℕ → Called). g n) (sym q.calls)
 
   runs_as : RunsAs (arrays_of units) (bodies_of image) (param_types f) (means units turns text) (runs image turns n) →
       RunsAs (arrays_of units) (bodies_of image) (types_called c) (scalar_call place.context c.callee) (s.calls n)
   runs_as h =
-      subst (λ (ts : List CType). RunsAs (arrays_of units) (bodies_of image) ts (scalar_call place.context c.callee) (s.calls n)) (sym types)
+      subst (λ (ts : List CType). RunsAs (arrays_of units) (bodies_of image) ts (scalar_call place.context c.callee) (s.calls n)) (sym q.types)
       (subst (λ (g : List Datum → Cells → Value). RunsAs (arrays_of units) (bodies_of image) (param_types f) g (s.calls n)) means_it
       (subst (λ (g : Called). RunsAs (arrays_of units) (bodies_of image) (param_types f) (means units turns text) g) runs_here h))
 
   on_lanes : (ks : List Kind) (lanes : ℕ) → RunsOnLanes (arrays_of units) (bodies_of image) (param_types f) ks (means units turns text) lanes (runs image turns n) →
       RunsOnLanes (arrays_of units) (bodies_of image) (types_called c) ks (scalar_call place.context c.callee) lanes (s.calls n)
   on_lanes ks lanes h =
-      subst (λ (ts : List CType). RunsOnLanes (arrays_of units) (bodies_of image) ts ks (scalar_call place.context c.callee) lanes (s.calls n)) (sym types)
+      subst (λ (ts : List CType). RunsOnLanes (arrays_of units) (bodies_of image) ts ks (scalar_call place.context c.callee) lanes (s.calls n)) (sym q.types)
       (subst (λ (g : List Datum → Cells → Value). RunsOnLanes (arrays_of units) (bodies_of image) (param_types f) ks g lanes (s.calls n)) means_it
       (subst (λ (g : Called). RunsOnLanes (arrays_of units) (bodies_of image) (param_types f) ks (means units turns text) lanes g) runs_here h))
 
@@ -153,13 +139,13 @@ module _ (units : List Subject) (image : Tables) (turns n : ℕ) (d : Definition
     where
       at : (y.kind ≡ Ordinary) ⊎ (y.kind ≡ Scalar) → MayCall place c linked n y y.kind
       at (inl e) = subst (λ (k : EntryKind). MayCall place c linked n y k) (sym e) (record {
-        caller = caller e;
-        lanes = subst (λ (k : EntryKind). HasLanesOf k y.lanes) e lanes;
-        does = runs_as (a.ordinary turns limit n y entry e is.named);
+        caller = q.caller e;
+        lanes = q.lanes e;
+        does = runs_as (q.agrees.ordinary turns q.limit n y q.entry e is.named);
       })
       at (inr e) = subst (λ (k : EntryKind). MayCall place c linked n y k) (sym e) (record {
-        lanes = subst (λ (k : EntryKind). HasLanesOf k y.lanes) e lanes;
-        does = on_lanes [] 1 (a.scalar turns limit n y entry e is.named);
+        lanes = q.lane e;
+        does = on_lanes [] 1 (q.agrees.scalar turns q.limit n y q.entry e is.named);
       })
 
   variant_target : (k : Candidate) → Contains (choices (goal_of image) m s.entry slot) k → IsVariantEntry text k y → MayCall place c linked n y y.kind
@@ -167,30 +153,30 @@ module _ (units : List Subject) (image : Tables) (turns n : ℕ) (d : Definition
       subst (λ (q : EntryKind). MayCall place c linked n y q) (sym is.kind)
       (may_variant place c linked n y k.length.masked (record { lanes = is.lanes_ ∙ x.lanes; fits = fits; does = does }))
     where
-      x : IsCandidate m.object t.row slot s.entry.lanes k
-      x = is_candidate (goal_of image) m s.entry slot t.row k t.at among
+      x : IsCandidate m.object q.tells.row slot s.entry.lanes k
+      x = is_candidate (goal_of image) m s.entry slot q.tells.row k q.tells.at among
 
       shapes : slot_shapes slot ≡ slot_shapes linked
-      shapes = ap (map (λ (b : SlotArg). b.shape)) (sym l.args)
+      shapes = ap (map (λ (b : SlotArg). b.shape)) (sym q.slots.args)
 
-      row_types : t.row.head.params ≡ types_called c
-      row_types = ap (λ (h : HeadTypes). h.params) t.head ∙ sym types
+      row_types : q.tells.row.head.params ≡ types_called c
+      row_types = ap (λ (h : HeadTypes). h.params) q.tells.head ∙ sym q.types
 
       fits : all_match (slot_shapes linked) (types_called c) y.params (slot_shapes linked) ≡ true
       fits =
           subst (λ (ps : List Param). all_match (slot_shapes linked) (types_called c) ps (slot_shapes linked) ≡ true) (sym is.params)
           (subst (λ (ts : List CType). all_match (slot_shapes linked) ts k.signature.params (slot_shapes linked) ≡ true) row_types
-          (subst (λ (ss : List Shape). all_match ss t.row.head.params k.signature.params ss ≡ true) shapes x.fitting))
+          (subst (λ (ss : List Shape). all_match ss q.tells.row.head.params k.signature.params ss ≡ true) shapes x.fitting))
 
       does : RunsOnLanes (arrays_of units) (bodies_of image) (types_called c) (kinds_in y.params) (scalar_call place.context c.callee) y.lanes (s.calls n)
       does =
           subst (λ (ps : List Param). RunsOnLanes (arrays_of units) (bodies_of image) (types_called c) (kinds_in ps) (scalar_call place.context c.callee) y.lanes (s.calls n)) (sym is.params)
           (on_lanes (kinds_of k.signature) y.lanes
-          (a.variants turns limit n y k.signature entry (t.signatures k.signature x.of.signature) (is_variant m.object slot text f s.entry.lanes k y t x is)))
+          (q.agrees.variants turns q.limit n y k.signature q.entry (q.tells.signatures k.signature x.of.signature) (is_variant m.object slot text f s.entry.lanes k y q.tells x is)))
 
   target_is_right : (by : Option Candidate) → IsSomeOf (choices (goal_of image) m s.entry slot) by → IsTargetBy text by y → MayCall place c linked n y y.kind
   target_is_right None among is = scalar_target is
   target_is_right (Some k) among is = variant_target k among is
 
-  pub call_is_right : IsTarget (goal_of image) m s.entry slot y → callee_of m slot ≡ text → MayCall place c linked n y y.kind
-  call_is_right h e = target_is_right h.by h.among (subst (λ (name : List ℕ). IsTargetBy name h.by y) e h.is)
+  pub call_is_right : MayCall place c linked n y y.kind
+  call_is_right = target_is_right q.target.by q.target.among (subst (λ (name : List ℕ). IsTargetBy name q.target.by y) q.callee q.target.is)

@@ -1,6 +1,6 @@
 -- The code of a function before and after its simd loops are closed: before, the body of each is still missing, and its guards are one
 -- pair for each base.
-use Rattle.std.specs.Prelude.{◌≡◌, ◌⊎◌, ℕ, nat_le, take, Bool, true, cond, not, List, [], ◌∷◌, map, filter, length, slice_get, Option, Some, None}
+use Rattle.std.specs.Prelude.{◌≡◌, ◌⊎◌, ℕ, nat_le, take, true, cond, List, [], ◌∷◌, map, filter, length, slice_get, Some, None}
 use Rattle.vk_kinds.specs.declared.heads.CType.{CType}
 use Rattle.vk_kinds.specs.Types.{ctype_number}
 use Rattle.vk_meaning.specs.Guards.{Base, Pair as BasePair, guard_pairs, is_compared, named_bases, same_base}

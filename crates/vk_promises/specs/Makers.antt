@@ -1,14 +1,14 @@
 -- What the makers of codes promise.
-use Rattle.std.specs.Prelude.{◌≡◌, ◌≢◌, ◌<◌, ℕ, take, true, List, [], map, length, slice_get, unwrap_or, Some, None, ℤ}
+use Rattle.std.specs.Prelude.{◌≡◌, ◌≢◌, ◌<◌, ℕ, take, true, List, [], ◌∷◌, map, length, slice_get, unwrap_or, Some, None, ℤ}
 use Rattle.vk_kinds.specs.Sizes.{SignatureTree}
 use Rattle.vk_kinds.specs.Types.{ctype_number}
 use Rattle.vk_rules_book.specs.Scopes.{text_of}
 use Rattle.vk_meaning.specs.World.{printed}
 use Rattle.vk_meaning.specs.Programs.{Definition, first_point}
-use Rattle.vk_code.specs.Listing.{Listing, Routine, SimdSite}
+use Rattle.vk_code.specs.Listing.{Listing, Routine, SimdSite, own}
 use Rattle.vk_code.specs.Valid.{IsValid, is_good_routine}
-use Rattle.vk_object.specs.declared.tables.EntryKind.TheVariants.{Ordinary}
 use Rattle.vk_object.specs.Machine.{enters}
+use Rattle.vk_object.specs.Objects.{CodeLists}
 use Rattle.vk_lane.specs.Runs.{RunsAs, RunsOnLanes}
 use Rattle.vk_sites.specs.Bounds.{IsShort, body_size, function_size, own_loops}
 use Rattle.vk_sites.specs.Loops.{LoopText}
@@ -96,3 +96,25 @@ pub record IsBodyCode (y : Symbols) (d : Definition) (l : LoopText) (c : Routine
       RunsChunk t.context t.bodies l t.site.entry.lanes entry (enters entry t.site)
   pub rest : (t : Setting) (entry : ℕ) → IsBodySetting d l y c t entry → t.site.entry.lanes ≡ 1 →
       RunsRest t.context t.bodies l entry (enters entry t.site)
+
+-- ---- the codes of a function
+
+-- the bodies that were put in place are those that the maker of bodies made
+abbrev pub AllBodies : Symbols → Definition → Listing → Type 0
+AllBodies y d closed = (loop : ℕ) (l : LoopText) (u : SimdSite) (body : Routine) → slice_get (own_loops d) loop ≡ Some l →
+    slice_get closed.loops loop ≡ Some u → u.body ≡ own body → IsBodyCode y d l body
+
+-- a code for each directive
+abbrev pub AllLaneCodes : Symbols → Definition → List SignatureTree → List Listing → Type 0
+AllLaneCodes y d [] [] = Unit {0}
+AllLaneCodes y d [] (c ∷ cs) = ⊥
+AllLaneCodes y d (s ∷ ss) [] = ⊥
+AllLaneCodes y d (s ∷ ss) (c ∷ cs) = IsLaneCode y d s c × AllLaneCodes y d ss cs
+
+-- the makers' codes, the scalar one with its loops closed
+pub record AreMade (y : Symbols) (d : Definition) (signatures : List SignatureTree) (codes : CodeLists) : Type 0 where
+  pub open_code : Listing
+  pub scalar : IsScalarCode y d signatures open_code
+  pub closed : IsClosed (own_loops d) open_code codes.scalar
+  pub bodies : AllBodies y d codes.scalar
+  pub directives : AllLaneCodes y d signatures codes.lanes

@@ -1,13 +1,12 @@
 -- Where a code of a unit runs, as its maker sees it: the scalar meaning on one side, the machine on the other, and what is known of the
 -- calls that it makes. Neither the image nor other units occur.
-use Rattle.std.specs.Prelude.{◌≡◌, ◌<◌, ◌≤◌, ◌^◌, ℕ, true, false, Bool, List, [], map, length, slice_get, unwrap_or, Option, Some, Contains}
+use Rattle.std.specs.Prelude.{◌≡◌, ◌<◌, ◌≤◌, ◌^◌, ℕ, true, false, Bool, List, [], map, length, slice_get, unwrap_or, Some, Contains}
 use Rattle.vk_types.specs.declared.types.Ty.{Ty}
 use Rattle.vk_kinds.specs.declared.heads.CType.{CType}
 use Rattle.vk_kinds.specs.declared.kinds.Kind.{Kind}
 use Rattle.vk_kinds.specs.declared.kinds.Param.{Param}
 use Rattle.vk_ast.specs.declared.names.NameId.{NameId}
-use Rattle.vk_rules_book.specs.Rules.{Subject}
-use Rattle.vk_rules_book.specs.Scopes.{an_object, meaning_of, text_of, Meaning}
+use Rattle.vk_rules_book.specs.Scopes.{an_object, meaning_of, text_of}
 use Rattle.vk_rules_book.specs.Typings.{wanted_types}
 use Rattle.vk_meaning.specs.World.{array_at, Memory as Cells, World}
 use Rattle.vk_meaning.specs.Data.{Datum, Value}
