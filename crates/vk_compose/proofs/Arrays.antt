@@ -13,8 +13,8 @@ use Rattle.vk_meaning.specs.Programs.{array_defined, put_in, in_order, arrays_of
 use Rattle.vk_object.specs.Images.{is_image}
 use Rattle.vk_object.specs.Objects.{ObjectLists}
 use Rattle.vk_object.specs.Tables.{Tables}
-use Rattle.vk_agree.specs.Units.{IsAccepted, first_of}
-use Rattle.vk_joins.specs.Carries.{Pair, objects_of, units_of, HaveTables, HasArraysOf}
+use Rattle.vk_agree.specs.Units.{first_of}
+use Rattle.vk_joins.specs.Carries.{AreAccepted, Pair, objects_of, units_of, HaveTables, HasArraysOf}
 use Rattle.vk_joins.specs.Joins.{Joins, array_defined_in, array_of_row, array_where_defined, defined_array}
 use Rattle.vk_joins.specs.Tables.{HasTables, array_if_named, data_by, array_in, array_named, declared_array, object_named, trimmed_array}
 use Rattle.vk_compose.proofs.Accepted.{arrays_differ}
@@ -226,9 +226,6 @@ abbrev AreOnce : List ObjectLists → Type 0
 AreOnce os = (i j : ℕ) (o p : ObjectLists) → slice_get os i ≡ Some o → slice_get os j ≡ Some p → (text : List ℕ) →
     is_some (array_defined_in o text) ≡ true → is_some (array_defined_in p text) ≡ true → i ≡ j
 
-abbrev pub AllAccepted : List Pair → Type 0
-AllAccepted ps = (p : Pair) → Contains ps p → IsAccepted p.unit
-
 no_array_in : (t : List ℕ) (ps : List Pair) → HaveTables ps → ((k : ℕ) (o : ObjectLists) → slice_get (objects_of ps) k ≡ Some o → is_some (array_defined_in o t) ≡ true → ⊥) → first_of (array_in t) (units_of ps) ≡ None
 no_array_in t [] h never = refl
 no_array_in t (p ∷ ps) h never =
@@ -238,7 +235,7 @@ no_array_in t (p ∷ ps) h never =
     at None e k = k
     at (Some a) e k = absurd (never 0 p.object refl e)
 
-arrays_of_units_differ : (ps : List Pair) → AllAccepted ps → HaveTables ps → AreOnce (objects_of ps) → AreDifferent (flat_map (λ (u : Subject). filter_map (array_defined u) u.items) (units_of ps))
+arrays_of_units_differ : (ps : List Pair) → AreAccepted ps → HaveTables ps → AreOnce (objects_of ps) → AreDifferent (flat_map (λ (u : Subject). filter_map (array_defined u) u.items) (units_of ps))
 arrays_of_units_differ [] accepted tables once = tt
 arrays_of_units_differ (p ∷ ps) accepted tables once =
     differ_both own own (flat_map (λ (u : Subject). filter_map (array_defined u) u.items) (units_of ps)) (arrays_differ p.unit (accepted p (here p ps)))
@@ -264,11 +261,11 @@ arrays_of_units_differ (p ∷ ps) accepted tables once =
     none t h = none_look t (flat_map (λ (u : Subject). filter_map (array_defined u) u.items) (units_of ps))
         (look_units t (units_of ps) ∙ no_array_in t ps (λ q k. tables q (later p q ps k)) (never t h))
 
-units_ascend : (image : Tables) (ps : List Pair) → AllAccepted ps → HaveTables ps → Joins image (objects_of ps) → AreAscending (arrays_of (units_of ps))
+units_ascend : (image : Tables) (ps : List Pair) → AreAccepted ps → HaveTables ps → Joins image (objects_of ps) → AreAscending (arrays_of (units_of ps))
 units_ascend image ps accepted tables joins = in_order_ascends (flat_map (λ (u : Subject). filter_map (array_defined u) u.items) (units_of ps)) (arrays_of_units_differ ps accepted tables joins.array_once)
 
 -- THE ARRAYS: an image that joins objects has the arrays of the units
-pub arrays_are : (image : Tables) (ps : List Pair) → is_image image ≡ true → AllAccepted ps → HaveTables ps → Joins image (objects_of ps) → HasArraysOf image (units_of ps)
+pub arrays_are : (image : Tables) (ps : List Pair) → is_image image ≡ true → AreAccepted ps → HaveTables ps → Joins image (objects_of ps) → HasArraysOf image (units_of ps)
 arrays_are image ps valid accepted tables joins =
     same_sorted (map array_of_row image.arrays) (map trimmed_array (arrays_of (units_of ps))) (rows_ascend image.arrays (arrays_ascend image valid))
     (ascending_trimmed (arrays_of (units_of ps)) (units_ascend image ps accepted tables joins)) same

@@ -150,7 +150,7 @@ bodies_are o u (l ∷ ls) [] h = absurd h
 bodies_are o u (l ∷ ls) (site ∷ sites) h = λ i. body_is o u l site h.0 i ++ bodies_are o u ls sites h.1 i
 
 -- a function is defined
-is_defined : Option Declared → Bool
+pub is_defined : Option Declared → Bool
 is_defined None = false
 is_defined (Some d) = d.defined
 
@@ -183,7 +183,7 @@ unfolding is_defined
 unit_defined_at u text a true e = sym (ap is_some (subst (λ (t : List ℕ). definition_in t u ≡ None) (sym ((bytes_eq-Decides text (codes "print")).0 e)) (print_undefined u a)))
 unit_defined_at u text a false e = declared_at u text (function_in text u) refl
 
-unit_defined : (u : Subject) (text : List ℕ) → IsAccepted u → is_defined (declared_in_unit u text) ≡ is_some (definition_in text u)
+pub unit_defined : (u : Subject) (text : List ℕ) → IsAccepted u → is_defined (declared_in_unit u text) ≡ is_some (definition_in text u)
 unit_defined u text a = unit_defined_at u text a (bytes_eq text (codes "print")) refl
 
 -- an object has codes of the functions that its unit defines
@@ -254,7 +254,7 @@ link_carries ps image valid h links joins chosen = record {
   valid = valid;
   joins = joins;
   chosen = chosen;
-  agree = composes ps image valid (λ p k. (h p k).1) joins (units_link ps h links);
+  agree = composes ps image valid h joins (units_link ps h links);
 }
 
 -- what a linker promises follows from what it builds

@@ -7,7 +7,7 @@ use Rattle.vk_object.specs.Images.{is_image}
 use Rattle.vk_object.specs.Tables.{Tables}
 use Rattle.vk_agree.specs.Agree.{AgreesIn, AgreesWhereDefined}
 use Rattle.vk_agree.specs.Units.{definition_in, first_of}
-use Rattle.vk_joins.specs.Carries.{Pair, objects_of, units_of, HaveTables, CalleesAgree, Carries, AllAgree}
+use Rattle.vk_joins.specs.Carries.{Pair, objects_of, units_of, AreAccepted, AreCarried, HaveTables, CalleesAgree, AllAgree}
 use Rattle.vk_joins.specs.Joins.{Joins}
 use Rattle.vk_joins.specs.Links.{Table, CallsIn, IsChainFrom, table_of_unit, callees_of, DoUnitsLink}
 use Rattle.vk_compose.proofs.Chains.{callees_by_name}
@@ -73,18 +73,18 @@ shallow ps links f = shallow_within ps 32 f (links.chains f)
 
 -- ---- every function agrees
 
-abbrev pub AllCarried : List Pair → Type 0
-AllCarried ps = (p : Pair) → Contains ps p → Carries p.object p.unit
+accepted_of : (ps : List Pair) → AreCarried ps → AreAccepted ps
+accepted_of ps h p k = (h p k).0
 
-tables_of_carried : (ps : List Pair) → AllCarried ps → HaveTables ps
-tables_of_carried ps h p k = (h p k).tables
+tables_of_carried : (ps : List Pair) → AreCarried ps → HaveTables ps
+tables_of_carried ps h p k = (h p k).1.tables
 
-module _ (ps : List Pair) (image : Tables) (valid : is_image image ≡ true) (carried : AllCarried ps) (joins : Joins image (objects_of ps)) (links : DoUnitsLink (units_of ps)) where
+module _ (ps : List Pair) (image : Tables) (valid : is_image image ≡ true) (carried : AreCarried ps) (joins : Joins image (objects_of ps)) (links : DoUnitsLink (units_of ps)) where
   agrees_if : (text : List ℕ) (o : Option Definition) → definition_of (units_of ps) text ≡ o → CalleesAgree text image (units_of ps) → AgreesIn text image (units_of ps)
   agrees_if text None e h = subst (AgreesWhereDefined (units_of ps) image text) (sym e) tt
   agrees_if text (Some d) e h =
       let x = definer ps text d e in
-      (carried x.pair x.among).keeps image ps valid x.among (tables_of_carried ps carried) joins links text d x.defines h
+      (carried x.pair x.among).1.keeps image ps valid x.among (accepted_of ps carried) (tables_of_carried ps carried) joins links text d x.defines h
 
   agrees_by_depth : (n : ℕ) (text : List ℕ) → AreShort ps n text → AgreesIn text image (units_of ps)
   agrees_by_depth zero text h = absurd (omega (h [] tt, arith))
@@ -92,6 +92,6 @@ module _ (ps : List Pair) (image : Tables) (valid : is_image image ≡ true) (ca
       agrees_if text (definition_of (units_of ps) text) refl
       (λ g k. agrees_by_depth n g (shorter ps n text g h (called_by ps text g (definition_of (units_of ps) text) refl k)))
 
--- THE COMPOSITION: an image that joins objects which carry units that link agrees with every function of the units
-pub composes : (ps : List Pair) (image : Tables) → is_image image ≡ true → AllCarried ps → Joins image (objects_of ps) → DoUnitsLink (units_of ps) → AllAgree image (units_of ps)
+-- THE COMPOSITION: an image that joins objects which carry accepted units that link agrees with every function of the units
+pub composes : (ps : List Pair) (image : Tables) → is_image image ≡ true → AreCarried ps → Joins image (objects_of ps) → DoUnitsLink (units_of ps) → AllAgree image (units_of ps)
 composes ps image valid carried joins links text = agrees_by_depth ps image valid carried joins links 32 text (links.chains text)

@@ -18,11 +18,11 @@ use Rattle.vk_object.specs.Tables.{ArrayLists, EntryLists, Tables}
 use Rattle.vk_lane.specs.Runs.{Bodies, EndsAlike, IsSameRun, RunsAs, events_of, one_lane}
 use Rattle.vk_agree.specs.Agree.{AgreesWhereDefined, Agrees, IsEntry, IsTurnLimit, RunsAsRead, bodies_of}
 use Rattle.vk_agree.specs.Units.{IsAccepted, param_types}
-use Rattle.vk_joins.specs.Carries.{HasArraysOf, ImageCarries, Pair, units_of}
+use Rattle.vk_joins.specs.Carries.{AreAccepted, HasArraysOf, ImageCarries, Pair, units_of}
 use Rattle.vk_joins.specs.Joins.{IsMain, IsScalarEntry, array_of_row}
 use Rattle.vk_joins.specs.Tables.{is_empty, trimmed, trimmed_array, words_of}
 use Rattle.vk_compose.proofs.Accepted.{main_has_no_parameters}
-use Rattle.vk_compose.proofs.Arrays.{AllAccepted, arrays_are}
+use Rattle.vk_compose.proofs.Arrays.{arrays_are}
 use Rattle.vk_compose.proofs.Compose.{definer}
 use Rattle.vk_compose.proofs.Images.{IsMainEntry, main_is}
 use Rattle.vk_compose.proofs.Lists.{contains_map}
@@ -110,27 +110,27 @@ main_of units image turns e x (Some g) t is kind text h d k =
 
 -- ---- the units
 
-abbrev pub AreAccepted : List Subject → Type 0
-AreAccepted units = (u : Subject) → Contains units u → IsAccepted u
+abbrev pub AreAcceptedUnits : List Subject → Type 0
+AreAcceptedUnits units = (u : Subject) → Contains units u → IsAccepted u
 
-accepted_pairs : (ps : List Pair) → AreAccepted (units_of ps) → AllAccepted ps
+accepted_pairs : (ps : List Pair) → AreAcceptedUnits (units_of ps) → AreAccepted ps
 accepted_pairs ps h p k = h p.unit (contains_map (λ (q : Pair). q.unit) ps p k)
 
-carried_arrays : (image : Tables) (units : List Subject) → AreAccepted units → ImageCarries image units → HasArraysOf image units
+carried_arrays : (image : Tables) (units : List Subject) → AreAcceptedUnits units → ImageCarries image units → HasArraysOf image units
 carried_arrays image units accepted c =
     subst (HasArraysOf image) c.units_are
-    (arrays_are image c.pairs c.valid (accepted_pairs c.pairs (subst AreAccepted (sym c.units_are) accepted)) (λ p k. (c.carried p k).tables) c.joins)
+    (arrays_are image c.pairs c.valid (accepted_pairs c.pairs (subst AreAcceptedUnits (sym c.units_are) accepted)) (λ p k. (c.carried p k).tables) c.joins)
 
-main_plain : (ps : List Pair) → AllAccepted ps → (d : Definition) → definition_of (units_of ps) (codes "main") ≡ Some d → param_types d ≡ []
+main_plain : (ps : List Pair) → AreAccepted ps → (d : Definition) → definition_of (units_of ps) (codes "main") ≡ Some d → param_types d ≡ []
 main_plain ps accepted d e = let x = definer ps (codes "main") d e in main_has_no_parameters x.pair.unit (accepted x.pair x.among) d x.defines
 
-carried_main : (image : Tables) (units : List Subject) → AreAccepted units → ImageCarries image units → (d : Definition) → definition_of units (codes "main") ≡ Some d → param_types d ≡ []
+carried_main : (image : Tables) (units : List Subject) → AreAcceptedUnits units → ImageCarries image units → (d : Definition) → definition_of units (codes "main") ≡ Some d → param_types d ≡ []
 carried_main image units accepted c d e =
-    main_plain c.pairs (accepted_pairs c.pairs (subst AreAccepted (sym c.units_are) accepted)) d
+    main_plain c.pairs (accepted_pairs c.pairs (subst AreAcceptedUnits (sym c.units_are) accepted)) d
     (subst (λ (us : List Subject). definition_of us (codes "main") ≡ Some d) (sym c.units_are) e)
 
 -- THE PROGRAM: where an image carries accepted units, its main prints and ends as the units' reading
-pub runs_as_read : (image : Tables) (units : List Subject) → AreAccepted units → ImageCarries image units → (d : Definition) → definition_of units (codes "main") ≡ Some d →
+pub runs_as_read : (image : Tables) (units : List Subject) → AreAcceptedUnits units → ImageCarries image units → (d : Definition) → definition_of units (codes "main") ≡ Some d →
     (e : ℕ) → image.main ≡ Some e → (turns : ℕ) → IsTurnLimit turns → (words : ℕ → ℕ → ℕ) →
     RunsAsRead (reading units turns) (runs image turns e one_lane words (first_memory image))
 runs_as_read image units accepted c d is e main turns t words =

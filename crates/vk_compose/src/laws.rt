@@ -12,14 +12,13 @@ ghost use Rattle.vk_object.specs.Tables.{Tables};
 ghost use Rattle.vk_lane.specs.Runs.{one_lane};
 ghost use Rattle.vk_agree.specs.Agree.{IsTurnLimit, RunsAsRead};
 ghost use Rattle.vk_agree.specs.Units.{IsAccepted};
-ghost use Rattle.vk_joins.specs.Carries.{AllAgree, AreCarried, Carries, HasArraysOf, HaveTables, ImageCarries, IsLinkOf, Pair, objects_of, units_of};
+ghost use Rattle.vk_joins.specs.Carries.{AllAgree, AreAccepted, AreCarried, HasArraysOf, HaveTables, ImageCarries, IsLinkOf, Pair, objects_of, units_of};
 ghost use Rattle.vk_joins.specs.Joins.{IsChosen, Joins};
 ghost use Rattle.vk_joins.specs.Links.{DoObjectsLink, DoUnitsLink};
 
-/// Objects that carry units compose: every function of units that link agrees with an image that joins the objects.
+/// Objects that carry accepted units compose: every function of units that link agrees with an image that joins the objects.
 pub fn objects_compose()
-    ensures { (ps : List Pair) (image : Tables) → is_image image ≡ true → ((p : Pair) → Contains ps p → Carries p.object p.unit)
-        → Joins image (objects_of ps) → DoUnitsLink (units_of ps) → AllAgree image (units_of ps) }
+    ensures { (ps : List Pair) (image : Tables) → is_image image ≡ true → AreCarried ps → Joins image (objects_of ps) → DoUnitsLink (units_of ps) → AllAgree image (units_of ps) }
 {}
 
 /// Objects that link, of accepted units that they carry, are of units that link.
@@ -36,7 +35,7 @@ pub fn linking()
 
 /// An image that joins objects has the arrays of their accepted units, in the same order.
 pub fn arrays_stay()
-    ensures { (image : Tables) (ps : List Pair) → is_image image ≡ true → ((p : Pair) → Contains ps p → IsAccepted p.unit) → HaveTables ps
+    ensures { (image : Tables) (ps : List Pair) → is_image image ≡ true → AreAccepted ps → HaveTables ps
         → Joins image (objects_of ps) → HasArraysOf image (units_of ps) }
 {}
 

@@ -25,6 +25,10 @@ objects_of ps = map (λ (p : Pair). p.object) ps
 abbrev pub units_of : List Pair → List Subject
 units_of ps = map (λ (p : Pair). p.unit) ps
 
+-- each unit is accepted
+abbrev pub AreAccepted : List Pair → Type 0
+AreAccepted ps = (p : Pair) → Contains ps p → IsAccepted p.unit
+
 -- the tables of each object are its unit's
 abbrev pub HaveTables : List Pair → Type 0
 HaveTables ps = (p : Pair) → Contains ps p → HasTables p.object p.unit
@@ -37,7 +41,7 @@ CalleesAgree text image units = (g : List ℕ) → Contains (callees_of (definit
 -- agrees where those agree that it calls.
 abbrev pub KeepsAgreement : ObjectLists → Subject → Type 0
 KeepsAgreement o u =
-    (image : Tables) (ps : List Pair) → is_image image ≡ true → Contains ps (record { object = o; unit = u }) → HaveTables ps →
+    (image : Tables) (ps : List Pair) → is_image image ≡ true → Contains ps (record { object = o; unit = u }) → AreAccepted ps → HaveTables ps →
     Joins image (objects_of ps) → DoUnitsLink (units_of ps) →
     (text : List ℕ) (d : Definition) → definition_in text u ≡ Some d → CalleesAgree text image (units_of ps) → AgreesIn text image (units_of ps)
 

@@ -120,9 +120,15 @@ declared_in_object o text = option_map declared_of_row (row_in o text)
 
 -- ---- both
 
+-- a name has one row
+abbrev pub HasOneRow : ObjectLists → Type 0
+HasOneRow o = (i j : ℕ) (r s : FunctionLists) → slice_get o.functions i ≡ Some r → slice_get o.functions j ≡ Some s →
+    symbol_of o r.symbol ≡ symbol_of o s.symbol → i ≡ j
+
 -- The object tells of each name what the unit tells of it. In an object each symbol is used by exactly one row, so its symbols are
 -- the names that are declared.
 pub record HasTables (o : ObjectLists) (u : Subject) : Type 0 where
   pub target : o.target ≡ u.target
   pub objects : (text : List ℕ) → data_in_object o text ≡ data_in_unit u text
   pub functions : (text : List ℕ) → declared_in_object o text ≡ declared_in_unit u text
+  pub one_row : HasOneRow o
