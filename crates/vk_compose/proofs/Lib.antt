@@ -8,3 +8,4 @@ pub mod Accepted
 pub mod Arrays
 pub mod Bridge
 pub mod Program
+pub mod Plans

@@ -118,10 +118,19 @@ kind_of_scalar (s ∷ ss) = Scalar
 abbrev pub kind_of_variant : (masked : Bool) → EntryKind
 kind_of_variant masked = cond masked M N
 
+-- the entry of a variant
+abbrev pub variant_plan : Made → (text : List ℕ) → Candidate → Planned
+variant_plan m text c = record {
+  text = variant_text c.length c.signature.params text;
+  kind = kind_of_variant c.length.masked;
+  lanes_ = Some c.lanes;
+  made = m;
+  params = c.signature.params;
+}
+
+-- where it is one of this directive
 abbrev pub plan_variant : Made → (text : List ℕ) → (directive : ℕ) → Candidate → List Planned
-plan_variant m text d c = cond (c.directive == d)
-    (record { text = variant_text c.length c.signature.params text; kind = kind_of_variant c.length.masked; lanes_ = Some c.lanes; made = m; params = c.signature.params } ∷ [])
-    []
+plan_variant m text d c = cond (c.directive == d) (variant_plan m text c ∷ []) []
 
 -- the name of a code's function
 abbrev pub function_of : Made → List ℕ
