@@ -1,5 +1,5 @@
 -- The arrays of an image that joins objects are those of the units, in the same order.
-use Rattle.std.proofs.Common.{◌≡◌, ℕ, suc, slice_get, Contains, is_some, arith, Bool, true, false, cond, List, [], ◌∷◌, ◌++◌, map, flat_map, filter_map, Option, Some, None, refl, subst, sym, ap, ◌∙◌, ◌⊎◌, inl, inr, bytes_eq, Ordering, Less, Equal, Greater}
+use Rattle.std.proofs.Common.{◌≡◌, ℕ, suc, slice_get, is_some, arith, Bool, true, false, cond, List, [], ◌∷◌, ◌++◌, map, flat_map, filter_map, Option, Some, None, refl, subst, sym, ap, ◌∙◌, ◌⊎◌, inl, inr, bytes_eq, Ordering, Less, Equal, Greater}
 use Rattle.std.specs.List.{cons_option}
 use Rattle.std.specs.Option.{option_and_then, option_map, option_or}
 use Rattle.std.specs.Ordering.{is_le, is_eq}

@@ -7,5 +7,5 @@ pub mod Images
 pub mod Accepted
 pub mod Arrays
 pub mod Bridge
-pub mod Program
 pub mod Plans
+pub mod Program

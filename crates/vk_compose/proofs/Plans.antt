@@ -1,10 +1,9 @@
 -- The entries of an image that joins objects: which code of which function each is made of.
-use Rattle.std.proofs.Common.{◌≡◌, ◌<◌, ℕ, zero, suc, ◌+◌, ◌==◌, Bool, true, false, cond, List, [], ◌∷◌, ◌++◌, map, flat_map, slice_get, slice_index_or, is_some, Option, Some, None, Contains, refl, subst, sym, ap, arith, ◌∙◌, ◌⊎◌, inl, inr, bytes_eq}
+use Rattle.std.proofs.Common.{◌≡◌, ℕ, zero, suc, ◌+◌, ◌==◌, Bool, true, false, cond, List, [], ◌∷◌, ◌++◌, flat_map, slice_get, is_some, Option, Some, None, Contains, refl, subst, sym, ap, arith, ◌∙◌, ◌⊎◌, inl, inr, bytes_eq}
 use Rattle.std.specs.Option.{option_and_then, option_or}
 use Rattle.std.proofs.lemmas.Bool.Decides.{Decides-eqb}
 use Rattle.std.proofs.lemmas.List.Elements.{Contains-append_cases}
 use Rattle.std.proofs.lemmas.Slice.Eq.{bytes_eq-Decides}
-use Rattle.vk_kinds.specs.Sizes.{SignatureTree}
 use Rattle.vk_meaning.specs.Programs.{Definition, definition_of}
 use Rattle.vk_code.specs.Listing.{Listing, LoopBody, SimdSite, numbered, own}
 use Rattle.vk_object.specs.declared.tables.EntryKind.{EntryKind}
@@ -12,15 +11,14 @@ use Rattle.vk_object.specs.declared.tables.EntryKind.TheVariants.{Ordinary, Scal
 use Rattle.vk_object.specs.Objects.{CodeLists, FunctionLists, ObjectLists}
 use Rattle.vk_object.specs.Tables.{EntryLists, Tables}
 use Rattle.vk_agree.specs.Agree.{IsEntry}
-use Rattle.vk_agree.specs.Units.{IsAccepted, definition_in, first_of}
+use Rattle.vk_agree.specs.Units.{definition_in, first_of}
 use Rattle.vk_joins.specs.Carries.{AreAccepted, HaveTables, Pair, objects_of, units_of}
 use Rattle.vk_joins.specs.Choice.{Candidate, Goal, variants_of}
-use Rattle.vk_joins.specs.Joins.{IsPlannedEntry, Joins, Made, Part, Planned, body, function_of, goal_of, kind_of_scalar, kind_of_variant, lanes, made_bodies, made_body, made_codes, made_in, made_lanes, plan_variant, planned, planned_of, scalar, variant_plan}
+use Rattle.vk_joins.specs.Joins.{IsPlannedEntry, Joins, Made, Part, Planned, body, function_of, goal_of, kind_of_scalar, kind_of_variant, lanes, made_bodies, made_body, made_codes, made_in, made_lanes, plan_variant, planned_of, scalar, variant_plan}
 use Rattle.vk_joins.specs.Links.{codes_in}
-use Rattle.vk_joins.specs.Tables.{HasOneRow, HasTables, row_if_named, row_in, symbol_of}
+use Rattle.vk_joins.specs.Tables.{HasOneRow, row_if_named, row_in, symbol_of}
 use Rattle.vk_compose.proofs.Bridge.{both_defined}
 use Rattle.vk_compose.proofs.Lists.{From, here, later, one_of, unmap}
-use Rattle.vk_compose.proofs.Order.{same_text}
 
 -- ---- lists
 

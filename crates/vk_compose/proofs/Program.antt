@@ -1,5 +1,5 @@
 -- An image that carries units runs as the units read.
-use Rattle.std.proofs.Common.{◌≡◌, ℕ, zero, suc, ◌==◌, ◌&&◌, true, false, cond, Bool, List, [], ◌∷◌, ◌++◌, get_or, slice_get, codes, unwrap_or, Option, Some, None, ℤ, Contains, refl, subst, sym, ap, arith, ◌∙◌}
+use Rattle.std.proofs.Common.{◌≡◌, ℕ, zero, suc, ◌==◌, ◌&&◌, true, false, cond, Bool, List, [], ◌∷◌, ◌++◌, get_or, slice_get, codes, unwrap_or, is_some, inl, Option, Some, None, ℤ, Contains, refl, subst, sym, ap, arith, ◌∙◌}
 use Rattle.std.specs.Option.{option_map}
 use Rattle.std.proofs.lemmas.Bool.Decides.{Decides-eqb}
 use Rattle.std.proofs.lemmas.Option.{slice_get-map}
@@ -18,14 +18,15 @@ use Rattle.vk_object.specs.Tables.{ArrayLists, EntryLists, Tables}
 use Rattle.vk_lane.specs.Runs.{Bodies, EndsAlike, IsSameRun, RunsAs, events_of, one_lane}
 use Rattle.vk_agree.specs.Agree.{AgreesWhereDefined, Agrees, IsEntry, IsTurnLimit, RunsAsRead, bodies_of}
 use Rattle.vk_agree.specs.Units.{IsAccepted, param_types}
-use Rattle.vk_joins.specs.Carries.{AreAccepted, HasArraysOf, ImageCarries, Pair, units_of}
-use Rattle.vk_joins.specs.Joins.{IsMain, IsScalarEntry, array_of_row}
+use Rattle.vk_joins.specs.Carries.{AreAccepted, HasArraysOf, HaveTables, ImageCarries, Pair, objects_of, units_of}
+use Rattle.vk_joins.specs.Joins.{IsMain, IsScalarEntry, Joins, array_of_row}
 use Rattle.vk_joins.specs.Tables.{is_empty, trimmed, trimmed_array, words_of}
 use Rattle.vk_compose.proofs.Accepted.{main_has_no_parameters}
 use Rattle.vk_compose.proofs.Arrays.{arrays_are}
 use Rattle.vk_compose.proofs.Compose.{definer}
 use Rattle.vk_compose.proofs.Images.{IsMainEntry, main_is}
 use Rattle.vk_compose.proofs.Lists.{contains_map}
+use Rattle.vk_compose.proofs.Plans.{entry_for, made_defined, scalar_of}
 
 -- ---- the first memory
 
@@ -129,13 +130,31 @@ carried_main image units accepted c d e =
     main_plain c.pairs (accepted_pairs c.pairs (subst AreAcceptedUnits (sym c.units_are) accepted)) d
     (subst (λ (us : List Subject). definition_of us (codes "main") ≡ Some d) (sym c.units_are) e)
 
+-- the function of the entry `main` is defined
+main_defined : (image : Tables) (ps : List Pair) → AreAccepted ps → HaveTables ps → Joins image (objects_of ps) → (e : ℕ) (x : EntryLists) → IsEntry image e x → x.kind ≡ Ordinary → x.text ≡ codes "main" →
+    is_some (definition_of (units_of ps) (codes "main")) ≡ true
+main_defined image ps accepted tables joins e x is kind text =
+    let f = entry_for image (objects_of ps) joins e x is in
+    let p = scalar_of image (objects_of ps) e x f (inl kind) in
+    subst (λ (t : List ℕ). is_some (definition_of (units_of ps) t) ≡ true) (sym p.text ∙ (sym f.planned.is.text ∙ text)) (made_defined ps accepted tables f.plan.made f.made)
+
 -- THE PROGRAM: where an image carries accepted units, its main prints and ends as the units' reading
-pub runs_as_read : (image : Tables) (units : List Subject) → AreAcceptedUnits units → ImageCarries image units → (d : Definition) → definition_of units (codes "main") ≡ Some d →
-    (e : ℕ) → image.main ≡ Some e → (turns : ℕ) → IsTurnLimit turns → (words : ℕ → ℕ → ℕ) →
+pub runs_as_read : (image : Tables) (units : List Subject) → AreAcceptedUnits units → ImageCarries image units → (e : ℕ) → image.main ≡ Some e → (turns : ℕ) → IsTurnLimit turns → (words : ℕ → ℕ → ℕ) →
     RunsAsRead (reading units turns) (runs image turns e one_lane words (first_memory image))
-runs_as_read image units accepted c d is e main turns t words =
-    let m : IsMainEntry image e = main_is image c.valid e main in
-    let y : IsMain image (Some e) = subst (IsMain image) main c.joins.main in
-    let z : IsScalarEntry (codes "main") m.x = y m.x m.is in
-    from_first units image turns e (param_types d) (carried_main image units accepted c d is) (carried_arrays image units accepted c)
-    (main_of units image turns e m.x (definition_of units (codes "main")) t m.is m.kind z.named (c.agree (codes "main")) d is) words
+runs_as_read image units accepted c e main turns t words = at (definition_of units (codes "main")) refl there
+  where
+    m : IsMainEntry image e
+    m = main_is image c.valid e main
+
+    z : IsScalarEntry (codes "main") m.x
+    z = (let y : IsMain image (Some e) = subst (IsMain image) main c.joins.main in y m.x m.is)
+
+    there : is_some (definition_of units (codes "main")) ≡ true
+    there = subst (λ (us : List Subject). is_some (definition_of us (codes "main")) ≡ true) c.units_are
+        (main_defined image c.pairs (accepted_pairs c.pairs (subst AreAcceptedUnits (sym c.units_are) accepted)) (λ p k. (c.carried p k).tables) c.joins e m.x m.is m.kind z.named)
+
+    at : (o : Option Definition) → definition_of units (codes "main") ≡ o → is_some o ≡ true → RunsAsRead (reading units turns) (runs image turns e one_lane words (first_memory image))
+    at None is k = cc
+    at (Some d) is k =
+        from_first units image turns e (param_types d) (carried_main image units accepted c d is) (carried_arrays image units accepted c)
+        (main_of units image turns e m.x (definition_of units (codes "main")) t m.is m.kind z.named (c.agree (codes "main")) d is) words

@@ -1,10 +1,9 @@
 // The laws of linking.
 
-ghost use Rattle.std.specs.Prelude.{◌≡◌, ◌≤◌, ℕ, Bool, Contains, List, Some, codes, is_some, true};
+ghost use Rattle.std.specs.Prelude.{◌≡◌, ◌≤◌, ℕ, Bool, Contains, List, Some, is_some, true};
 ghost use Rattle.vk_kinds.specs.declared.kinds.Isa.{Isa};
 ghost use Rattle.vk_rules_book.specs.Rules.{Subject};
 ghost use Rattle.vk_meaning.specs.Meaning.{reading};
-ghost use Rattle.vk_meaning.specs.Programs.{Definition, definition_of};
 ghost use Rattle.vk_object.specs.Images.{is_image, is_within};
 ghost use Rattle.vk_object.specs.Machine.{entry_at, first_memory, runs};
 ghost use Rattle.vk_object.specs.Objects.{ObjectLists};
@@ -42,8 +41,7 @@ pub fn arrays_stay()
 /// Where an image carries accepted units, its `main` prints the numbers of their reading and ends as it ends.
 pub fn programs_run_as_read()
     ensures { (image : Tables) (units : List Subject) → ((u : Subject) → Contains units u → IsAccepted u) → ImageCarries image units
-        → (d : Definition) → definition_of units (codes "main") ≡ Some d → (e : ℕ) → image.main ≡ Some e
-        → (turns : ℕ) → IsTurnLimit turns → (words : ℕ → ℕ → ℕ)
+        → (e : ℕ) → image.main ≡ Some e → (turns : ℕ) → IsTurnLimit turns → (words : ℕ → ℕ → ℕ)
         → RunsAsRead (reading units turns) (runs image turns e one_lane words (first_memory image)) }
 {}
 
