@@ -154,6 +154,10 @@ pub is_defined : Option Declared → Bool
 is_defined None = false
 is_defined (Some d) = d.defined
 
+pub defined_by : (t : Table) (g : List ℕ) (e : Declared) → DefinesFunction t g e → is_defined (t.function g) ≡ true
+unfolding is_defined
+defined_by t g e h = ap is_defined h.0 ∙ h.1
+
 row_defined : (r : Option FunctionLists) → is_defined (option_map declared_of_row r) ≡ is_some (option_and_then (λ (x : FunctionLists). x.codes) r)
 unfolding is_defined
 row_defined None = refl

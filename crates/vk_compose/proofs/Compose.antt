@@ -39,10 +39,10 @@ definer ps text d h = definer_found ps text d (found (look_up text) ps d (sym (l
 -- ---- chains are short
 
 -- the tables of the units
-abbrev tables_of : List Pair → List Table
+abbrev pub tables_of : List Pair → List Table
 tables_of ps = map table_of_unit (units_of ps)
 
-table_in : (ps : List Pair) (p : Pair) → Contains ps p → Contains (tables_of ps) (table_of_unit p.unit)
+pub table_in : (ps : List Pair) (p : Pair) → Contains ps p → Contains (tables_of ps) (table_of_unit p.unit)
 table_in ps p h = contains_map table_of_unit (units_of ps) p.unit (contains_map (λ (q : Pair). q.unit) ps p h)
 
 abbrev AreShort : List Pair → ℕ → (f : List ℕ) → Type 0

@@ -270,7 +270,7 @@ pub row_found : (o : ObjectLists) (r : FunctionLists) → HasOneRow o → Contai
 row_found o r once h = let p = place_of o.functions r h in first_row o (symbol_of o r.symbol) o.functions p.place r p.at refl once
 
 -- where some unit defines a function, the units do
-some_definition : (ps : List Pair) (p : Pair) (text : List ℕ) → Contains ps p → is_some (definition_in text p.unit) ≡ true → is_some (definition_of (units_of ps) text) ≡ true
+pub some_definition : (ps : List Pair) (p : Pair) (text : List ℕ) → Contains ps p → is_some (definition_in text p.unit) ≡ true → is_some (definition_of (units_of ps) text) ≡ true
 some_definition [] p text h d = absurd (omega (h.1, arith))
 some_definition (q ∷ ps) p text (zero, lt, at) d = first (definition_in text q.unit) (definition_of (units_of ps) text) (ap (λ (x : Pair). is_some (definition_in text x.unit)) at ∙ d)
   where
