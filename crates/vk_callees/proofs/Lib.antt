@@ -1,2 +1,3 @@
 mod Heads
-mod Told
+pub mod Told
+mod Calls

@@ -47,7 +47,7 @@ module _ (ps : List Pair) (accepted : AreAccepted ps) (tables : HaveTables ps) (
     g = symbol_of p.object row.symbol
 
     -- the caller's unit declares it so
-    declared_here : declared_in_unit p.unit g ≡ Some (declared_of_row row)
+    pub declared_here : declared_in_unit p.unit g ≡ Some (declared_of_row row)
     declared_here =
         sym ((tables p p_in).functions g) ∙
         ap (option_map declared_of_row) (row_found p.object row (tables p p_in).one_row (among p.object.functions slot.function row at_slot))

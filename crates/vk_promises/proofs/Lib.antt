@@ -1,4 +1,4 @@
-mod Ends
-mod Targets
+pub mod Ends
+pub mod Targets
 mod Within
 mod Made
