@@ -4,6 +4,7 @@ ghost use Rattle.std.specs.Prelude.{◌≡◌, ◌≤◌, ℕ, Bool, Contains, L
 ghost use Rattle.vk_kinds.specs.declared.kinds.Isa.{Isa};
 ghost use Rattle.vk_rules_book.specs.Rules.{Subject};
 ghost use Rattle.vk_meaning.specs.Meaning.{reading};
+ghost use Rattle.vk_meaning_terms.specs.Depth.{IsShallow};
 ghost use Rattle.vk_object.specs.Images.{is_image, is_within};
 ghost use Rattle.vk_object.specs.Machine.{entry_at, first_memory, runs};
 ghost use Rattle.vk_object.specs.Objects.{ObjectLists};
@@ -49,4 +50,9 @@ pub fn programs_run_as_read()
 pub fn depth_of_entries_is_of_no_matter()
     ensures { (image : Tables) (turns depth more e : ℕ) → depth ≤ more → is_within image depth e ≡ true
         → entry_at image turns depth e ≡ entry_at image turns more e }
+{}
+
+/// In units that link no chain of calls has more than 32 functions.
+pub fn calls_are_shallow()
+    ensures { (ps : List Pair) → DoUnitsLink (units_of ps) → (text : List ℕ) → IsShallow 32 (units_of ps) text }
 {}

@@ -1,20 +1,25 @@
 -- A program of objects and units, and a code of it that runs.
-use Rattle.std.specs.Prelude.{◌≡◌, ℕ, true, false, List, Option, Some, Contains}
+use Rattle.std.specs.Prelude.{◌≡◌, ℕ, true, false, List, [], Some, Contains}
 use Rattle.std.specs.Option.{option_map}
 use Rattle.vk_rules_book.specs.Rules.{Subject}
 use Rattle.vk_rules_book.specs.Scopes.{text_of}
 use Rattle.vk_meaning.specs.Programs.{Definition, definition_of, first_point}
-use Rattle.vk_object.specs.Images.{is_image}
+use Rattle.vk_code.specs.Listing.{CallSite, Listing}
+use Rattle.vk_object.specs.Images.{code_of, is_image}
+use Rattle.vk_object.specs.Machine.{entry_at, site_at}
 use Rattle.vk_object.specs.Tables.{EntryLists, Tables}
+use Rattle.vk_sites.specs.Bounds.{own_loops}
 use Rattle.vk_sites.specs.Calls.{CallText}
-use Rattle.vk_agree.specs.Agree.{is_body}
+use Rattle.vk_sites.specs.Objects.{objects_of as objects_named}
+use Rattle.vk_agree.specs.Agree.{IsTurnLimit, is_body}
 use Rattle.vk_agree.specs.Units.{definition_in}
 use Rattle.vk_joins.specs.Carries.{AreAccepted, CalleesAgree, HaveTables, Pair, objects_of, units_of}
 use Rattle.vk_joins.specs.Codes.{IsCodeOf, Manner, own_calls, symbols_of}
-use Rattle.vk_joins.specs.Joins.{IsPlannedEntry, Joins, Planned}
+use Rattle.vk_joins.specs.Joins.{IsPlannedEntry, Joins, Planned, array_number}
 use Rattle.vk_joins.specs.Links.{DoUnitsLink, body_calls}
 use Rattle.vk_joins.specs.Tables.{Declared, declared_in_unit}
-use Rattle.vk_promises.specs.Settings.{types_called}
+use Rattle.vk_promises.specs.Places.{TellsOf, setting_of}
+use Rattle.vk_promises.specs.Settings.{HasObjects, Setting, types_called}
 
 -- accepted units that link, objects that tell the same names, and a valid image that joins the objects
 pub record IsProgram (ps : List Pair) (image : Tables) : Type 0 where
@@ -41,3 +46,20 @@ pub record IsRunning (ps : List Pair) (image : Tables) (p : Pair) (text : List �
   pub code : IsCodeOf (symbols_of p.object) d.unit manner (first_point d) d.body plan.made.code
   pub declared : CallsAreDeclared d.unit (own_calls d.unit (body_calls d))
   pub no_body : is_body (Some x) ≡ false
+
+-- the definition of the function that a slot of the pair's object calls, and what the slot's row tells of it
+pub record IsTold (ps : List Pair) (p : Pair) (slot : CallSite) (name : List ℕ) : Type 0 where
+  pub definition : Definition
+  pub is : definition_of (units_of ps) name ≡ Some definition
+  pub tells : TellsOf p.object slot name definition
+
+-- the setting of the running code
+abbrev pub running_setting : List Pair → Tables → (turns : ℕ) → Definition → EntryLists → Listing → Setting
+running_setting ps image turns d x code = setting_of (units_of ps) image turns d (site_at image turns (entry_at image turns 63) x code) (array_number image)
+
+-- A function of the program without simd loops, with its running code: the objects that it names are arrays of their types.
+pub record IsRunningAlone (ps : List Pair) (image : Tables) (turns : ℕ) (d : Definition) (x : EntryLists) (code : Listing) : Type 0 where
+  pub limit : IsTurnLimit turns
+  pub code_is : code_of image x ≡ Some code
+  pub no_loops : own_loops d ≡ []
+  pub objects : HasObjects d (objects_named (first_point d) d.body) (running_setting ps image turns d x code)

@@ -1,26 +1,24 @@
 -- The definition of a function in an accepted unit has the types of the function's first declaration there.
-use Rattle.std.proofs.Common.{◌≡◌, ◌⊎◌, inl, inr, ℕ, zero, suc, ◌==◌, Bool, true, false, cond, ◌&&◌, ◌||◌, not, List, [], ◌∷◌, ◌++◌, Contains, Option, Some, None, bytes_eq, rules, refl, sym, ap, subst, ◌∙◌, arith}
-use Rattle.std.specs.List.{AllByRecursion, list_any}
+use Rattle.std.proofs.Common.{◌≡◌, ◌⊎◌, inl, inr, ℕ, Bool, true, false, cond, ◌||◌, not, List, [], ◌∷◌, ◌++◌, Contains, Option, Some, None, bytes_eq, rules, refl, sym, ap, subst, ◌∙◌}
+use Rattle.std.specs.List.{AllByRecursion}
 use Rattle.std.specs.Option.{option_or}
 use Rattle.std.proofs.lemmas.Bool.Decides.{Decides-eqb}
 use Rattle.std.proofs.lemmas.List.{append-nil, append_assoc}
 use Rattle.std.proofs.lemmas.List.Elements.{Contains-append_left, Contains-append_right}
 use Rattle.std.proofs.lemmas.Slice.Eq.{bytes_eq-Decides}
 use Rattle.vk_types.specs.declared.types.Ty.{Ty}
-use Rattle.vk_types.specs.declared.types.Ty.TheVariants.{I8, I16, I32, I64, U8, U16, U32, U64}
 use Rattle.vk_kinds.specs.declared.heads.CType.{CType}
 use Rattle.vk_kinds.specs.declared.heads.CType.TheVariants.{Void, Int, Ptr}
-use Rattle.vk_kinds.specs.Sizes.{HeadTypes}
 use Rattle.vk_ast.specs.declared.names.NameId.{NameId}
 use Rattle.vk_ast.specs.Statements.{StmtTree}
-use Rattle.vk_ast.specs.Units.{FunctionTree, ItemTree, ObjectTree, function, object, lost_line}
-use Rattle.vk_rules_book.specs.Items.{agrees, defines, disagrees, is_wrong_again, same_ctype, same_ctypes}
+use Rattle.vk_ast.specs.Units.{FunctionTree, ItemTree, function, object, lost_line}
+use Rattle.vk_rules_book.specs.Items.{agrees, disagrees, same_ctype, same_ctypes}
 use Rattle.vk_rules_book.specs.Rules.{Subject, faults_of}
-use Rattle.vk_rules_book.specs.Scopes.{declares, first_declaration, same_name, text_of, types_of}
+use Rattle.vk_rules_book.specs.Scopes.{first_declaration, same_name, text_of, types_of}
 use Rattle.vk_rules_book.specs.Signatures.{head_of}
 use Rattle.vk_rules_book.specs.Typings.{same_type}
-use Rattle.vk_rules_book.specs.Visits.{Visit, along, item, item_visits}
-use Rattle.vk_rules_laws.proofs.Each.{IsQuiet, back, front, unit_quiet}
+use Rattle.vk_rules_book.specs.Visits.{along, item, item_visits}
+use Rattle.vk_rules_laws.proofs.Each.{IsQuiet, back, unit_quiet}
 use Rattle.vk_rules_laws.proofs.Sizes.{IsQuietFunction, quiet_function}
 use Rattle.vk_meaning.specs.Programs.{Definition, defined_behind, defined_by, with_body}
 use Rattle.vk_agree.specs.Units.{IsAccepted, definition_in, first_of, function_in, function_named}

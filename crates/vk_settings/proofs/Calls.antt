@@ -1,21 +1,18 @@
 -- The calls of a code that an image runs are right.
-use Rattle.std.proofs.Common.{◌≡◌, ◌⊎◌, inl, inr, ℕ, zero, suc, ◌&&◌, not, cond, Bool, true, false, List, [], ◌∷◌, ◌++◌, map, flat_map, slice_get, unwrap_or, Contains, Option, Some, None, refl, sym, ap, subst, ◌∙◌, arith}
+use Rattle.std.proofs.Common.{◌≡◌, ℕ, ◌&&◌, not, Bool, true, false, List, [], ◌++◌, map, flat_map, slice_get, unwrap_or, Contains, Option, Some, None, refl, sym, ap, subst, ◌∙◌}
 use Rattle.std.specs.List.{list_all}
 use Rattle.std.specs.Option.{option_map}
 use Rattle.std.proofs.lemmas.List.Folds.{list_all-append}
 use Rattle.std.proofs.lemmas.List.Elements.{Contains-append_left}
 use Rattle.std.proofs.lemmas.Option.{slice_get-map}
-use Rattle.vk_kinds.specs.declared.heads.CType.{CType}
 use Rattle.vk_kinds.specs.Sizes.{HeadTypes}
 use Rattle.vk_rules_book.specs.Rules.{Subject}
 use Rattle.vk_rules_book.specs.Scopes.{is_print, text_of}
-use Rattle.vk_rules_book.specs.Signatures.{head_of}
-use Rattle.vk_meaning.specs.Programs.{Definition, definition_of, first_point}
+use Rattle.vk_meaning.specs.Programs.{Definition, definition_of}
 use Rattle.vk_code.specs.Listing.{CallSite, Listing, Routine}
 use Rattle.vk_code.specs.Tests.{all_good, holds}
-use Rattle.vk_code.specs.Valid.{Callee, IsValid, body_verdicts, has_callee, has_good_args, is_call_of, is_good_head, is_good_loop, is_good_slot, is_result, verdicts}
+use Rattle.vk_code.specs.Valid.{IsValid, body_verdicts, has_callee, has_good_args, is_call_of, is_good_head, is_good_loop, is_good_slot, is_result}
 use Rattle.vk_object.specs.declared.tables.EntryKind.{EntryKind}
-use Rattle.vk_object.specs.declared.tables.EntryKind.TheVariants.{Ordinary, Scalar}
 use Rattle.vk_object.specs.Images.{calls_within, code_of, is_within}
 use Rattle.vk_object.specs.Machine.{Site, entry_at, site_at}
 use Rattle.vk_object.specs.Objects.{FunctionLists, ObjectLists, callee_of, names_of}
@@ -28,19 +25,19 @@ use Rattle.vk_agree.specs.Agree.{Agrees, AgreesWhereDefined, IsEntry, IsTurnLimi
 use Rattle.vk_agree.specs.Units.{param_types}
 use Rattle.vk_joins.specs.Carries.{Pair, objects_of, units_of}
 use Rattle.vk_joins.specs.Codes.{Call, Manner, Symbols, call_made, call_told, callee_name, lanes, own_calls, plain, symbols_of}
-use Rattle.vk_joins.specs.Joins.{IsLinkedCode, IsTarget, Made, Planned, array_number, array_of_object, goal_of}
+use Rattle.vk_joins.specs.Joins.{IsLinkedCode, IsTarget, Planned, array_number, array_of_object, goal_of}
 use Rattle.vk_joins.specs.Linked.{IsLinked}
 use Rattle.vk_joins.specs.Links.{body_calls, callees_in, callees_of, loop_calls}
-use Rattle.vk_joins.specs.Tables.{Declared, declared_in_unit, declared_of_row, symbol_of}
+use Rattle.vk_joins.specs.Tables.{Declared, declared_in_unit, symbol_of}
 use Rattle.vk_compose.proofs.Images.{HasLanesOf, HasTarget, entry_lanes, entry_within, ordinary_calls, slot_target}
 use Rattle.vk_compose.proofs.Lists.{At, both_first, both_second, contains_map, get_unmap, kept}
 use Rattle.vk_compose.proofs.Plans.{among}
 use Rattle.vk_promises.specs.Places.{IsLinkedCall, TellsOf, setting_of}
-use Rattle.vk_promises.specs.Settings.{CallsAreRight, IsRightCall, MayCall, Setting, types_called}
+use Rattle.vk_promises.specs.Settings.{CallsAreRight, IsRightCall, Setting, types_called}
 use Rattle.vk_promises.proofs.Targets.{call_is_right}
-use Rattle.vk_callees.specs.Programs.{CallsAreDeclared, IsProgram, IsRunning}
-use Rattle.vk_callees.proofs.Heads.{defined_in_unit}
-use Rattle.vk_callees.proofs.Told.{IsTold, callee_told, declared_here}
+use Rattle.vk_settings.specs.Programs.{IsProgram, IsRunning, IsTold}
+use Rattle.vk_settings.proofs.Heads.{defined_in_unit}
+use Rattle.vk_settings.proofs.Told.{callee_told, declared_here}
 
 -- ---- the row of a slot
 
@@ -89,6 +86,11 @@ slot_at y slots made cs k c e is = get_unmap (call_told y) slots k (made c) (ap 
 same_some : {X : Type 0} (a b : X) → Some a ≡ Some b → a ≡ b
 same_some a b e = cc
 
+-- the objects of a program are for one target
+pub one_target : (ps : List Pair) (image : Tables) → IsProgram ps image → (q r : Pair) → Contains ps q → Contains ps r → q.object.target ≡ r.object.target
+one_target ps image program q r a b =
+    sym (program.joins.target q.object (contains_map (λ (z : Pair). z.object) ps q a)) ∙ program.joins.target r.object (contains_map (λ (z : Pair). z.object) ps r b)
+
 module _ (ps : List Pair) (image : Tables) (program : IsProgram ps image) (p : Pair) (text : List ℕ) (d : Definition) (manner : Manner) (e : ℕ) (x : EntryLists) (plan : Planned)
     (running : IsRunning ps image p text d manner e x plan) (turns : ℕ) (limit : IsTurnLimit turns) (code : Listing) (code_is : code_of image x ≡ Some code) where
   abbrev here : Site
@@ -102,10 +104,6 @@ module _ (ps : List Pair) (image : Tables) (program : IsProgram ps image) (p : P
 
   pub linked : IsLinked (array_of_object image p.object) plan.made.code code
   linked = subst (λ (o : ObjectLists). IsLinked (array_of_object image o) plan.made.code code) running.object linked_code.linked
-
-  one_target : (q r : Pair) → Contains ps q → Contains ps r → q.object.target ≡ r.object.target
-  one_target q r a b =
-      sym (program.joins.target q.object (contains_map (λ (z : Pair). z.object) ps q a)) ∙ program.joins.target r.object (contains_map (λ (z : Pair). z.object) ps r b)
 
   module _ (k : ℕ) (c : CallText) (own_call : slice_get (own_calls d.unit (body_calls d)) k ≡ Some c) (made : CallSite) (made_at : slice_get code.routine.slots k ≡ Some made) where
     abbrev name : List ℕ
@@ -133,7 +131,7 @@ module _ (ps : List Pair) (image : Tables) (program : IsProgram ps image) (p : P
         (contains_map (λ (z : CallText). text_of d.unit.texts z.callee) (own_calls d.unit (body_calls d)) c is_own)
 
     told : IsTold ps p slot.of (symbol_of p.object row.row.symbol)
-    told = callee_told ps program.accepted program.tables program.links one_target p running.among slot.of row.row row.at text d running.defined (subst (λ (g : List ℕ). Contains (callees_of (Some d)) g) (sym row_name) called)
+    told = callee_told ps program.accepted program.tables program.links (one_target ps image program) p running.among slot.of row.row row.at text d running.defined (subst (λ (g : List ℕ). Contains (callees_of (Some d)) g) (sym row_name) called)
 
     abbrev f : Definition
     f = told.definition
@@ -148,7 +146,7 @@ module _ (ps : List Pair) (image : Tables) (program : IsProgram ps image) (p : P
     row_declared : option_map (λ (z : Declared). z.params) (declared_in_unit p.unit name) ≡ Some row.row.head.params
     row_declared =
         subst (λ (g : List ℕ). option_map (λ (z : Declared). z.params) (declared_in_unit p.unit g) ≡ Some row.row.head.params) row_name
-        (ap (option_map (λ (z : Declared). z.params)) (declared_here ps program.accepted program.tables program.links one_target p running.among slot.of row.row row.at))
+        (ap (option_map (λ (z : Declared). z.params)) (declared_here ps program.accepted program.tables program.links (one_target ps image program) p running.among slot.of row.row row.at))
 
     row_is : row.row ≡ tells.row
     row_is = same_some row.row tells.row (sym row.at ∙ tells.at)

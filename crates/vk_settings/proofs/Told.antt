@@ -1,10 +1,8 @@
 -- What the caller's object tells of a called function is what its definition says.
-use Rattle.std.proofs.Common.{◌≡◌, ◌⊎◌, inl, inr, ℕ, ◌<◌, Bool, true, false, cond, List, [], Contains, Option, Some, None, is_some, bytes_eq, codes, map, slice_get, refl, sym, ap, subst, ◌∙◌, arith}
+use Rattle.std.proofs.Common.{◌≡◌, ◌⊎◌, inl, inr, ℕ, Bool, true, false, cond, List, [], Contains, Option, Some, None, is_some, bytes_eq, codes, slice_get, refl, sym, ap, subst, ◌∙◌, arith}
 use Rattle.std.specs.Option.{option_map}
 use Rattle.std.proofs.lemmas.Slice.Eq.{bytes_eq-Decides}
-use Rattle.vk_kinds.specs.declared.kinds.Target.{Target}
-use Rattle.vk_kinds.specs.Sizes.{HeadTypes, SignatureTree}
-use Rattle.vk_ast.specs.Units.{FunctionTree}
+use Rattle.vk_kinds.specs.Sizes.{SignatureTree}
 use Rattle.vk_rules_book.specs.Rules.{Subject}
 use Rattle.vk_rules_book.specs.Signatures.{head_of}
 use Rattle.vk_meaning.specs.Programs.{Definition, definition_of}
@@ -12,21 +10,16 @@ use Rattle.vk_code.specs.Listing.{CallSite}
 use Rattle.vk_object.specs.Objects.{FunctionLists}
 use Rattle.vk_agree.specs.Units.{IsAccepted, definition_in, function_in, signatures_in}
 use Rattle.vk_joins.specs.Carries.{AreAccepted, HaveTables, Pair, units_of}
-use Rattle.vk_joins.specs.Links.{Defines, DefinesFunction, DefinesObject, DoUnitsLink, Table, callees_of, table_of_unit}
-use Rattle.vk_joins.specs.Tables.{Data, Declared, declared_as, declared_in_unit, declared_of_row, symbol_of}
+use Rattle.vk_joins.specs.Links.{Defines, DefinesFunction, DoUnitsLink, Table, callees_of, table_of_unit}
+use Rattle.vk_joins.specs.Tables.{declared_as, declared_in_unit, declared_of_row, symbol_of}
 use Rattle.vk_compose.proofs.Accepted.{print_undefined}
 use Rattle.vk_compose.proofs.Bridge.{defined_by, is_defined, unit_defined}
 use Rattle.vk_compose.proofs.Compose.{definer, table_in, tables_of}
-use Rattle.vk_compose.proofs.Lists.{From, unmap}
+use Rattle.vk_compose.proofs.Lists.{unmap}
 use Rattle.vk_compose.proofs.Plans.{among, row_found, some_definition}
 use Rattle.vk_promises.specs.Places.{TellsOf}
-use Rattle.vk_callees.proofs.Heads.{HasHead, defined_in_unit, has_head}
-
--- the definition of a called function, and what the slot's row tells of it
-pub record IsTold (ps : List Pair) (p : Pair) (slot : CallSite) (g : List ℕ) : Type 0 where
-  pub definition : Definition
-  pub is : definition_of (units_of ps) g ≡ Some definition
-  pub tells : TellsOf p.object slot g definition
+use Rattle.vk_settings.specs.Programs.{IsTold}
+use Rattle.vk_settings.proofs.Heads.{HasHead, defined_in_unit, has_head}
 
 -- what a unit that defines a function declares
 declared_there : (v : Subject) → IsAccepted v → (g : List ℕ) (f : Definition) → definition_in g v ≡ Some f → (h : HasHead g v f) → declared_in_unit v g ≡ Some (declared_as v g h.first)

@@ -1,3 +1,0 @@
-mod Heads
-pub mod Told
-mod Calls

@@ -1,0 +1,4 @@
+mod Heads
+mod Told
+mod Calls
+mod Agreeing
