@@ -26,9 +26,9 @@ use Rattle.vk_joins.specs.Codes.{AreBodiesOf, AreCodesOf, AreSame, Call, HasCode
 use Rattle.vk_joins.specs.Joins.{Joins, IsChosen}
 use Rattle.vk_joins.specs.Links.{AreLinkable, CallsIn, Defines, DefinesFunction, DefinesObject, DoObjectsLink, DoUnitsLink, IsChainFrom, IsSameData, IsSameFunction, Table, callees_in, callees_of, code_calls, code_uses, codes_in, loop_calls, loop_names, objects_used, slot_names, table_of_object, table_of_unit}
 use Rattle.vk_joins.specs.Tables.{Data, Declared, HasTables, declared_as, declared_in_unit, declared_of_row, row_in}
-use Rattle.vk_compose.proofs.Accepted.{print_undefined}
+use Rattle.vk_joins_laws.proofs.Accepted.{print_undefined}
 use Rattle.vk_compose.proofs.Compose.{composes}
-use Rattle.vk_compose.proofs.Lists.{contains_map, get_unmap, here, later, unmap}
+use Rattle.vk_joins_laws.proofs.Lists.{contains_map, get_unmap, here, later, unmap}
 
 -- ---- tables that tell the same
 

@@ -11,7 +11,7 @@ use Rattle.vk_joins.specs.Carries.{Pair, objects_of, units_of, AreAccepted, AreC
 use Rattle.vk_joins.specs.Joins.{Joins}
 use Rattle.vk_joins.specs.Links.{Table, CallsIn, IsChainFrom, table_of_unit, callees_of, DoUnitsLink}
 use Rattle.vk_compose.proofs.Chains.{callees_by_name}
-use Rattle.vk_compose.proofs.Lists.{contains_map, Found, found}
+use Rattle.vk_joins_laws.proofs.Lists.{contains_map, Found, found}
 
 -- ---- who defines a function
 

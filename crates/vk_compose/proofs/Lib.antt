@@ -1,11 +1,5 @@
-pub mod Lists
 pub mod Chains
 pub mod Compose
-pub mod Levels
-pub mod Order
-pub mod Images
-pub mod Accepted
-pub mod Arrays
 pub mod Bridge
 pub mod Plans
-pub mod Program
+mod Program

@@ -18,7 +18,7 @@ use Rattle.vk_joins.specs.Joins.{IsPlannedEntry, Joins, Made, Part, Planned, bod
 use Rattle.vk_joins.specs.Links.{codes_in}
 use Rattle.vk_joins.specs.Tables.{HasOneRow, row_if_named, row_in, symbol_of}
 use Rattle.vk_compose.proofs.Bridge.{both_defined}
-use Rattle.vk_compose.proofs.Lists.{From, here, later, one_of, unmap}
+use Rattle.vk_joins_laws.proofs.Lists.{From, here, later, one_of, unmap}
 
 -- ---- lists
 

@@ -21,11 +21,11 @@ use Rattle.vk_agree.specs.Units.{IsAccepted, param_types}
 use Rattle.vk_joins.specs.Carries.{AreAccepted, HasArraysOf, HaveTables, ImageCarries, Pair, objects_of, units_of}
 use Rattle.vk_joins.specs.Joins.{IsMain, IsScalarEntry, Joins, array_of_row}
 use Rattle.vk_joins.specs.Tables.{is_empty, trimmed, trimmed_array, words_of}
-use Rattle.vk_compose.proofs.Accepted.{main_has_no_parameters}
-use Rattle.vk_compose.proofs.Arrays.{arrays_are}
+use Rattle.vk_joins_laws.proofs.Accepted.{main_has_no_parameters}
+use Rattle.vk_joins_laws.proofs.Arrays.{arrays_are}
 use Rattle.vk_compose.proofs.Compose.{definer}
-use Rattle.vk_compose.proofs.Images.{IsMainEntry, main_is}
-use Rattle.vk_compose.proofs.Lists.{contains_map}
+use Rattle.vk_joins_laws.proofs.Images.{IsMainEntry, main_is}
+use Rattle.vk_joins_laws.proofs.Lists.{contains_map}
 use Rattle.vk_compose.proofs.Plans.{entry_for, made_defined, scalar_of}
 
 -- ---- the first memory

@@ -1,18 +1,18 @@
 // The laws of linking.
 
-ghost use Rattle.std.specs.Prelude.{◌≡◌, ◌≤◌, ℕ, Bool, Contains, List, Some, is_some, true};
+ghost use Rattle.std.specs.Prelude.{◌≡◌, ℕ, Bool, Contains, List, Some, is_some, true};
 ghost use Rattle.vk_kinds.specs.declared.kinds.Isa.{Isa};
 ghost use Rattle.vk_rules_book.specs.Rules.{Subject};
 ghost use Rattle.vk_meaning.specs.Meaning.{reading};
 ghost use Rattle.vk_meaning_terms.specs.Depth.{IsShallow};
-ghost use Rattle.vk_object.specs.Images.{is_image, is_within};
-ghost use Rattle.vk_object.specs.Machine.{entry_at, first_memory, runs};
+ghost use Rattle.vk_object.specs.Images.{is_image};
+ghost use Rattle.vk_object.specs.Machine.{first_memory, runs};
 ghost use Rattle.vk_object.specs.Objects.{ObjectLists};
 ghost use Rattle.vk_object.specs.Tables.{Tables};
 ghost use Rattle.vk_lane.specs.Runs.{one_lane};
 ghost use Rattle.vk_agree.specs.Agree.{IsTurnLimit, RunsAsRead};
 ghost use Rattle.vk_agree.specs.Units.{IsAccepted};
-ghost use Rattle.vk_joins.specs.Carries.{AllAgree, AreAccepted, AreCarried, HasArraysOf, HaveTables, ImageCarries, IsLinkOf, Pair, objects_of, units_of};
+ghost use Rattle.vk_joins.specs.Carries.{AllAgree, AreCarried, ImageCarries, IsLinkOf, Pair, objects_of, units_of};
 ghost use Rattle.vk_joins.specs.Joins.{IsChosen, Joins};
 ghost use Rattle.vk_joins.specs.Links.{DoObjectsLink, DoUnitsLink};
 
@@ -33,23 +33,11 @@ pub fn linking()
         → IsLinkOf isa vl need_main os image }
 {}
 
-/// An image that joins objects has the arrays of their accepted units, in the same order.
-pub fn arrays_stay()
-    ensures { (image : Tables) (ps : List Pair) → is_image image ≡ true → AreAccepted ps → HaveTables ps
-        → Joins image (objects_of ps) → HasArraysOf image (units_of ps) }
-{}
-
 /// Where an image carries accepted units, its `main` prints the numbers of their reading and ends as it ends.
 pub fn programs_run_as_read()
     ensures { (image : Tables) (units : List Subject) → ((u : Subject) → Contains units u → IsAccepted u) → ImageCarries image units
         → (e : ℕ) → image.main ≡ Some e → (turns : ℕ) → IsTurnLimit turns → (words : ℕ → ℕ → ℕ)
         → RunsAsRead (reading units turns) (runs image turns e one_lane words (first_memory image)) }
-{}
-
-/// Where an entry's calls are at most so many deep, more depth changes nothing of what it does.
-pub fn depth_of_entries_is_of_no_matter()
-    ensures { (image : Tables) (turns depth more e : ℕ) → depth ≤ more → is_within image depth e ≡ true
-        → entry_at image turns depth e ≡ entry_at image turns more e }
 {}
 
 /// In units that link no chain of calls has more than 32 functions.

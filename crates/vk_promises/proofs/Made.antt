@@ -18,7 +18,7 @@ use Rattle.vk_sites.specs.Loops.{LoopText}
 use Rattle.vk_sites.specs.Objects.{objects_of}
 use Rattle.vk_joins.specs.Codes.{AreBodiesOf, AreCodesOf, AreLaneCodesOf, AreSame, IsBodyOf, IsCodeOf, Symbols, calls_told, names_in_body, names_in_instrs, names_made, names_told, plain}
 use Rattle.vk_compose.proofs.Chains.{Every}
-use Rattle.vk_compose.proofs.Lists.{contains_map, unmap}
+use Rattle.vk_joins_laws.proofs.Lists.{contains_map, unmap}
 use Rattle.vk_promises.specs.Codes.{AreGoodBodies, HasOpenSite, IsClosed, IsClosedSite, IsOpenSite, given_types}
 use Rattle.vk_promises.specs.Makers.{AllBodies, AllLaneCodes, AreMade, IsBodyCode, IsScalarCode}
 use Rattle.vk_promises.proofs.Within.{Within, inside_of}

@@ -30,8 +30,8 @@ use Rattle.vk_agree.specs.Units.{kinds_of, param_types}
 use Rattle.vk_joins.specs.Choice.{Candidate, Goal, all_match, candidates, candidates_of, is_allowed, is_fitting, is_usable, usable, usable_from, variants_of, with_lanes}
 use Rattle.vk_joins.specs.Codes.{slot_shapes}
 use Rattle.vk_joins.specs.Joins.{IsScalarEntry, IsSomeOf, IsTargetBy, IsVariantEntry, Made, choices, goal_of, is_whole, kind_of_variant}
-use Rattle.vk_compose.proofs.Levels.{deeper}
-use Rattle.vk_compose.proofs.Lists.{both_first, both_second, given, here, kept, later}
+use Rattle.vk_joins_laws.proofs.Levels.{deeper}
+use Rattle.vk_joins_laws.proofs.Lists.{both_first, both_second, given, here, kept, later}
 use Rattle.vk_promises.specs.Settings.{MayCall, MayCallVariant, Setting, kinds_in, scalar_call, types_called}
 use Rattle.vk_promises.specs.Places.{IsLinkedCall, TellsOf, setting_of}
 

@@ -21,7 +21,7 @@ use Rattle.vk_joins.specs.Carries.{Pair, units_of}
 use Rattle.vk_joins.specs.Codes.{Manner, symbols_of}
 use Rattle.vk_joins.specs.Joins.{Planned, array_number, array_of_row}
 use Rattle.vk_joins.specs.Tables.{trimmed_array}
-use Rattle.vk_compose.proofs.Arrays.{arrays_are}
+use Rattle.vk_joins_laws.proofs.Arrays.{arrays_are}
 use Rattle.vk_promises.specs.Codes.{IsClosed}
 use Rattle.vk_promises.specs.Makers.{IsLaneCode, IsLocal, IsScalarCode, IsSetting}
 use Rattle.vk_promises.specs.Places.{setting_of}

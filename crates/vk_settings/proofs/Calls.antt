@@ -29,8 +29,8 @@ use Rattle.vk_joins.specs.Joins.{IsLinkedCode, IsTarget, Planned, array_number, 
 use Rattle.vk_joins.specs.Linked.{IsLinked}
 use Rattle.vk_joins.specs.Links.{body_calls, callees_in, callees_of, loop_calls}
 use Rattle.vk_joins.specs.Tables.{Declared, declared_in_unit, symbol_of}
-use Rattle.vk_compose.proofs.Images.{HasLanesOf, HasTarget, entry_lanes, entry_within, ordinary_calls, slot_target}
-use Rattle.vk_compose.proofs.Lists.{At, both_first, both_second, contains_map, get_unmap, kept}
+use Rattle.vk_joins_laws.proofs.Images.{HasLanesOf, HasTarget, entry_lanes, entry_within, ordinary_calls, slot_target}
+use Rattle.vk_joins_laws.proofs.Lists.{At, both_first, both_second, contains_map, get_unmap, kept}
 use Rattle.vk_compose.proofs.Plans.{among}
 use Rattle.vk_promises.specs.Places.{IsLinkedCall, TellsOf, setting_of}
 use Rattle.vk_promises.specs.Settings.{CallsAreRight, IsRightCall, Setting, types_called}

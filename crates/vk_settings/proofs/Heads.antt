@@ -22,7 +22,7 @@ use Rattle.vk_rules_laws.proofs.Each.{IsQuiet, back, unit_quiet}
 use Rattle.vk_rules_laws.proofs.Sizes.{IsQuietFunction, quiet_function}
 use Rattle.vk_meaning.specs.Programs.{Definition, defined_behind, defined_by, with_body}
 use Rattle.vk_agree.specs.Units.{IsAccepted, definition_in, first_of, function_in, function_named}
-use Rattle.vk_compose.proofs.Lists.{both_first, both_second, here, later}
+use Rattle.vk_joins_laws.proofs.Lists.{both_first, both_second, here, later}
 
 -- ---- types that are told the same
 

@@ -12,10 +12,10 @@ use Rattle.vk_agree.specs.Units.{IsAccepted, definition_in, function_in, signatu
 use Rattle.vk_joins.specs.Carries.{AreAccepted, HaveTables, Pair, units_of}
 use Rattle.vk_joins.specs.Links.{Defines, DefinesFunction, DoUnitsLink, Table, callees_of, table_of_unit}
 use Rattle.vk_joins.specs.Tables.{declared_as, declared_in_unit, declared_of_row, symbol_of}
-use Rattle.vk_compose.proofs.Accepted.{print_undefined}
+use Rattle.vk_joins_laws.proofs.Accepted.{print_undefined}
 use Rattle.vk_compose.proofs.Bridge.{defined_by, is_defined, unit_defined}
 use Rattle.vk_compose.proofs.Compose.{definer, table_in, tables_of}
-use Rattle.vk_compose.proofs.Lists.{unmap}
+use Rattle.vk_joins_laws.proofs.Lists.{unmap}
 use Rattle.vk_compose.proofs.Plans.{among, row_found, some_definition}
 use Rattle.vk_promises.specs.Places.{TellsOf}
 use Rattle.vk_settings.specs.Programs.{IsTold}

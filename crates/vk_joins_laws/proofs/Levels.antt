@@ -14,7 +14,7 @@ use Rattle.vk_object.specs.Lane.{is_live, number_at}
 use Rattle.vk_object.specs.Machine.{World, Called, Site, in_lane, sweep, call_all, call_one, Target, target_of, calls_target, Simd, simd_of, iterations, after_calls, all_calls, body_args, guard_holds, runs_simd, performs, performs_some, again, run, enters, first_lane, word_in, enters_some, site_at, entry_at}
 use Rattle.vk_object.specs.Memory.{Memory, Calls, logged}
 use Rattle.vk_object.specs.Tables.{EntryLists, Tables}
-use Rattle.vk_compose.proofs.Lists.{both_first, both_second}
+use Rattle.vk_joins_laws.proofs.Lists.{both_first, both_second}
 
 abbrev pub with_calls : Site → (ℕ → Called) → Site
 with_calls s f = record { arrays = s.arrays; entry = s.entry; code = s.code; entries = s.entries; calls = f; turns = s.turns }

@@ -11,7 +11,7 @@ use Rattle.vk_object.specs.Tables.{EntryLists, Tables}
 use Rattle.vk_object.specs.Texts.{ascend, between}
 use Rattle.vk_runs.proofs.Reached.{all_at, image_parts, row_lanes, slots_linked}
 use Rattle.vk_agree.specs.Agree.{IsEntry}
-use Rattle.vk_compose.proofs.Lists.{both_first, both_second}
+use Rattle.vk_joins_laws.proofs.Lists.{both_first, both_second}
 
 -- ---- the whole image
 

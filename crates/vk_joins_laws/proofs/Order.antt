@@ -12,7 +12,7 @@ use Rattle.vk_object.specs.Images.{array_before}
 use Rattle.vk_object.specs.Tables.{ArrayLists}
 use Rattle.vk_object.specs.Texts.{ascend, is_before}
 use Rattle.vk_joins.specs.Joins.{array_of_row}
-use Rattle.vk_compose.proofs.Lists.{both_first, both_second}
+use Rattle.vk_joins_laws.proofs.Lists.{both_first, both_second}
 
 abbrev pub order : List ℕ → List ℕ → Ordering
 order a b = slice_cmp nat_cmp a b

@@ -23,8 +23,8 @@ use Rattle.vk_rules.proofs.Quiet.{quiet_left, quiet_right, when_not}
 use Rattle.vk_rules_laws.proofs.Each.{IsQuiet, back, front, unit_quiet}
 use Rattle.vk_meaning.specs.Programs.{Definition, array_defined, array_of_object, defined_behind, defined_by, with_body}
 use Rattle.vk_agree.specs.Units.{IsAccepted, definition_in, param_types}
-use Rattle.vk_compose.proofs.Lists.{both_first, both_second, here}
-use Rattle.vk_compose.proofs.Order.{AreDifferent, IsNone}
+use Rattle.vk_joins_laws.proofs.Lists.{both_first, both_second, here}
+use Rattle.vk_joins_laws.proofs.Order.{AreDifferent, IsNone}
 
 -- ---- tests
 

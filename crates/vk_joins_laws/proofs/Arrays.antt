@@ -17,10 +17,10 @@ use Rattle.vk_agree.specs.Units.{first_of}
 use Rattle.vk_joins.specs.Carries.{AreAccepted, Pair, objects_of, units_of, HaveTables, HasArraysOf}
 use Rattle.vk_joins.specs.Joins.{Joins, array_defined_in, array_of_row, array_where_defined, defined_array}
 use Rattle.vk_joins.specs.Tables.{HasTables, array_if_named, data_by, array_in, array_named, declared_array, object_named, trimmed_array}
-use Rattle.vk_compose.proofs.Accepted.{arrays_differ}
-use Rattle.vk_compose.proofs.Images.{arrays_ascend}
-use Rattle.vk_compose.proofs.Lists.{here, later, first_of_map}
-use Rattle.vk_compose.proofs.Order.{AreAscending, AreDifferent, EachAfter, IsNone, after_is, in_order_ascends, is_up_to, order, rows_ascend, same_text}
+use Rattle.vk_joins_laws.proofs.Accepted.{arrays_differ}
+use Rattle.vk_joins_laws.proofs.Images.{arrays_ascend}
+use Rattle.vk_joins_laws.proofs.Lists.{here, later, first_of_map}
+use Rattle.vk_joins_laws.proofs.Order.{AreAscending, AreDifferent, EachAfter, IsNone, after_is, in_order_ascends, is_up_to, order, rows_ascend, same_text}
 
 less_differs : (a b : List ℕ) → order a b ≡ Less → bytes_eq b a ≡ false
 less_differs a b h = sym (is_eq-slice_cmp b a) ∙ ap is_eq (after_is a b h)
