@@ -56,8 +56,10 @@ ctypes_are (s ∷ ss) (t ∷ ts) h =
 
 heads_are : (g f : FunctionTree) → agrees (function g) (function f) ≡ true → head_of f ≡ head_of g
 heads_are g f h =
-    λ i. record { result = sym (ctype_is g.result f.result (both_first (same_ctype g.result f.result) (same_ctypes (types_of g.params) (types_of f.params)) h)) i;
-    params = sym (ctypes_are (types_of g.params) (types_of f.params) (both_second (same_ctype g.result f.result) (same_ctypes (types_of g.params) (types_of f.params)) h)) i }
+    λ i. record {
+      result = sym (ctype_is g.result f.result (both_first (same_ctype g.result f.result) (same_ctypes (types_of g.params) (types_of f.params)) h)) i;
+      params = sym (ctypes_are (types_of g.params) (types_of f.params) (both_second (same_ctype g.result f.result) (same_ctypes (types_of g.params) (types_of f.params)) h)) i;
+    }
 
 -- ---- where a definition stands
 

@@ -23,8 +23,8 @@ ghost use Rattle.vk_promises.specs.Makers.{IsLaneCode, IsLocal, IsScalarCode};
 ghost use Rattle.vk_promises.specs.Settings.{CallsAreRight};
 ghost use Rattle.vk_settings.specs.Programs.{IsProgram, IsRunning, IsRunningAlone, IsTold, running_setting};
 
-use vk_meaning_laws::laws::stands_in_any_run;
 use vk_compose::laws::calls_are_shallow;
+use vk_meaning_laws::laws::stands_in_any_run;
 use vk_meaning_terms::laws::depth_is_of_no_matter;
 
 /// In a program, what a caller's object tells of a function that it calls is what the function's definition says.
