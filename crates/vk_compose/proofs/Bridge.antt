@@ -33,7 +33,7 @@ use Rattle.vk_joins_laws.proofs.Lists.{contains_map, get_unmap, here, later, unm
 -- ---- tables that tell the same
 
 pub record IsSameTable (t u : Table) : Type 0 where
-  pub data_ : (text : List ℕ) → t.data_ text ≡ u.data_ text
+  pub object : (text : List ℕ) → t.object text ≡ u.object text
   pub function : (text : List ℕ) → t.function text ≡ u.function text
   pub calls : (text : List ℕ) → t.calls text ≡ u.calls text
   pub uses : (text : List ℕ) → AreSame (t.uses text) (u.uses text)
@@ -61,7 +61,7 @@ defines_function : (q : Both) (text : List ℕ) (d : Declared) → DefinesFuncti
 defines_function q text d h = (q.same.function text ∙ h.0, h.1)
 
 defines_object : (q : Both) (text : List ℕ) (d : Data) → DefinesObject q.right text d → DefinesObject q.left text d
-defines_object q text d h = (q.same.data_ text ∙ h.0, h.1)
+defines_object q text d h = (q.same.object text ∙ h.0, h.1)
 
 defines_left : (q : Both) (text : List ℕ) → Defines q.right text → Defines q.left text
 defines_left q text (inl h) = inl (h.0, defines_function q text h.0 h.1)
@@ -69,7 +69,7 @@ defines_left q text (inr h) = inr (h.0, defines_object q text h.0 h.1)
 
 defines_right : (q : Both) (text : List ℕ) → Defines q.left text → Defines q.right text
 defines_right q text (inl h) = inl (h.0, (sym (q.same.function text) ∙ h.1.0, h.1.1))
-defines_right q text (inr h) = inr (h.0, (sym (q.same.data_ text) ∙ h.1.0, h.1.1))
+defines_right q text (inr h) = inr (h.0, (sym (q.same.object text) ∙ h.1.0, h.1.1))
 
 -- some table on the right defines it
 abbrev SomeDefines : List Table → List ℕ → Type 0
@@ -115,12 +115,12 @@ linkable_right qs links = record {
   once = once_right qs links;
   functions = two_right (λ t u. (text : List ℕ) (d e : Declared) → t.function text ≡ Some d → DefinesFunction u text e → IsSameFunction d e) qs
       (λ q r a b text d e x y. links.functions q.left r.left (left_of q qs a) (left_of r qs b) text d e (q.same.function text ∙ x) (defines_function r text e y));
-  objects = two_right (λ t u. (text : List ℕ) (d e : Data) → t.data_ text ≡ Some d → DefinesObject u text e → IsSameData d e) qs
-      (λ q r a b text d e x y. links.objects q.left r.left (left_of q qs a) (left_of r qs b) text d e (q.same.data_ text ∙ x) (defines_object r text e y));
+  objects = two_right (λ t u. (text : List ℕ) (d e : Data) → t.object text ≡ Some d → DefinesObject u text e → IsSameData d e) qs
+      (λ q r a b text d e x y. links.objects q.left r.left (left_of q qs a) (left_of r qs b) text d e (q.same.object text ∙ x) (defines_object r text e y));
   kinds = two_right (λ t u. (text : List ℕ) (d : Declared) (e : Data) → t.function text ≡ Some d → DefinesObject u text e → ⊥) qs
       (λ q r a b text d e x y. links.kinds q.left r.left (left_of q qs a) (left_of r qs b) text d e (q.same.function text ∙ x) (defines_object r text e y));
-  other_kinds = two_right (λ t u. (text : List ℕ) (d : Data) (e : Declared) → t.data_ text ≡ Some d → DefinesFunction u text e → ⊥) qs
-      (λ q r a b text d e x y. links.other_kinds q.left r.left (left_of q qs a) (left_of r qs b) text d e (q.same.data_ text ∙ x) (defines_function r text e y));
+  other_kinds = two_right (λ t u. (text : List ℕ) (d : Data) (e : Declared) → t.object text ≡ Some d → DefinesFunction u text e → ⊥) qs
+      (λ q r a b text d e x y. links.other_kinds q.left r.left (left_of q qs a) (left_of r qs b) text d e (q.same.object text ∙ x) (defines_function r text e y));
   directives = two_right (λ t u. (text : List ℕ) (d e : Declared) → t.function text ≡ Some d → DefinesFunction u text e → (d.signatures ≡ []) ⊎ (d.signatures ≡ e.signatures)) qs
       (λ q r a b text d e x y. links.directives q.left r.left (left_of q qs a) (left_of r qs b) text d e (q.same.function text ∙ x) (defines_function r text e y));
   chains = λ f gs h. links.chains f gs (chain_left qs f gs h);
@@ -221,7 +221,7 @@ tells o u text a t h = tells_at o u text h (row_in o text) refl (codes_in o text
 
 pub same_table : (o : ObjectLists) (u : Subject) → IsAccepted u → HasTables o u → HasCodes o u → IsSameTable (table_of_object o) (table_of_unit u)
 same_table o u a t h = record {
-  data_ = t.objects;
+  object = t.objects;
   function = t.functions;
   calls = λ text. (tells o u text a t h).calls;
   uses = λ text. (tells o u text a t h).uses;

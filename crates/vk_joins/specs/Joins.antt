@@ -107,7 +107,7 @@ pub record IsLinkedCode (os : List ObjectLists) (image : Tables) (m : Made) (c :
 pub record Planned : Type 0 where
   pub text : List ℕ
   pub kind : EntryKind
-  pub lanes_ : Option ℕ
+  pub lane_count : Option ℕ
   pub made : Made
   pub params : List Param
 
@@ -123,7 +123,7 @@ abbrev pub variant_plan : Made → (text : List ℕ) → Candidate → Planned
 variant_plan m text c = record {
   text = variant_text c.length c.signature.params text;
   kind = kind_of_variant c.length.masked;
-  lanes_ = Some c.lanes;
+  lane_count = Some c.lanes;
   made = m;
   params = c.signature.params;
 }
@@ -137,10 +137,10 @@ abbrev pub function_of : Made → List ℕ
 function_of m = symbol_of m.object m.row.symbol
 
 abbrev pub planned_of : Goal → Made → Part → List Planned
-planned_of goal m scalar = record { text = function_of m; kind = kind_of_scalar m.row.directives; lanes_ = Some 1; made = m; params = [] } ∷ []
+planned_of goal m scalar = record { text = function_of m; kind = kind_of_scalar m.row.directives; lane_count = Some 1; made = m; params = [] } ∷ []
 planned_of goal m (body k) =
-    record { text = loop_text (function_of m) (k + 1); kind = Chunk; lanes_ = None; made = m; params = [] }
-    ∷ record { text = loop_text (function_of m) (k + 1); kind = Rest; lanes_ = Some 1; made = m; params = [] }
+    record { text = loop_text (function_of m) (k + 1); kind = Chunk; lane_count = None; made = m; params = [] }
+    ∷ record { text = loop_text (function_of m) (k + 1); kind = Rest; lane_count = Some 1; made = m; params = [] }
     ∷ []
 planned_of goal m (lanes d) = flat_map (plan_variant m (function_of m) d) (variants_of goal m.object m.row)
 
@@ -156,7 +156,7 @@ HasLanes (Some m) n = n ≡ m
 pub record IsPlanned (os : List ObjectLists) (p : Planned) (x : EntryLists) : Type 0 where
   pub text : x.text ≡ p.text
   pub kind : x.kind ≡ p.kind
-  pub lanes_ : HasLanes p.lanes_ x.lanes
+  pub lane_count : HasLanes p.lane_count x.lanes
   pub code : slice_get (made_in os) x.code ≡ Some p.made
   pub params : x.params ≡ p.params
 
@@ -177,7 +177,7 @@ pub record IsScalarEntry (text : List ℕ) (y : EntryLists) : Type 0 where
 pub record IsVariantEntry (text : List ℕ) (c : Candidate) (y : EntryLists) : Type 0 where
   pub named : y.text ≡ variant_text c.length c.signature.params text
   pub kind : y.kind ≡ kind_of_variant c.length.masked
-  pub lanes_ : y.lanes ≡ c.lanes
+  pub lane_count : y.lanes ≡ c.lanes
   pub params : y.params ≡ c.signature.params
 
 abbrev pub IsTargetBy : (text : List ℕ) → Option Candidate → EntryLists → Type 0
@@ -247,7 +247,7 @@ pub record Joins (image : Tables) (os : List ObjectLists) : Type 0 where
   pub loops : (e k : ℕ) (x : EntryLists) (t : LoopTargets) → IsEntry image e x → slice_get x.loops k ≡ Some t → AreLoopEntries image x.text k t
   -- the codes
   pub code_count : length image.codes ≡ length (made_in os)
-  pub codes_ : (n : ℕ) (m : Made) (c : Listing) → slice_get (made_in os) n ≡ Some m → slice_get image.codes n ≡ Some c → IsLinkedCode os image m c
+  pub linked_codes : (n : ℕ) (m : Made) (c : Listing) → slice_get (made_in os) n ≡ Some m → slice_get image.codes n ≡ Some c → IsLinkedCode os image m c
   -- the targets
   pub targets : (x y : EntryLists) (p : Planned) (slot : CallSite) → IsSlotTarget os image x p slot y → IsTarget (goal_of image) p.made x slot y
 

@@ -16,7 +16,7 @@ use Rattle.vk_joins.specs.Tables.{Data, Declared, data_in_unit, declared_in_unit
 -- what a unit or an object tells: of each name its object or function, and of each function that it defines the names of the
 -- functions that it calls and of the objects that it uses
 pub record Table : Type 0 where
-  pub data_ : (text : List ℕ) → Option Data
+  pub object : (text : List ℕ) → Option Data
   pub function : (text : List ℕ) → Option Declared
   pub calls : (text : List ℕ) → List (List ℕ)
   pub uses : (text : List ℕ) → List (List ℕ)
@@ -28,7 +28,7 @@ abbrev pub DefinesFunction : Table → (text : List ℕ) → Declared → Type 0
 DefinesFunction t text d = (t.function text ≡ Some d) × (d.defined ≡ true)
 
 abbrev pub DefinesObject : Table → (text : List ℕ) → Data → Type 0
-DefinesObject t text d = (t.data_ text ≡ Some d) × (d.defined ≡ true)
+DefinesObject t text d = (t.object text ≡ Some d) × (d.defined ≡ true)
 
 abbrev pub Defines : Table → (text : List ℕ) → Type 0
 Defines t text = ((d : Declared) × DefinesFunction t text d) ⊎ ((d : Data) × DefinesObject t text d)
@@ -61,9 +61,9 @@ pub record AreLinkable (ts : List Table) : Type 0 where
   pub once : (i j : ℕ) (t u : Table) → slice_get ts i ≡ Some t → slice_get ts j ≡ Some u → (text : List ℕ) → Defines t text → Defines u text → i ≡ j
   -- a declaration has the definition's kind, types, `const` and length
   pub functions : (t u : Table) → Contains ts t → Contains ts u → (text : List ℕ) (d e : Declared) → t.function text ≡ Some d → DefinesFunction u text e → IsSameFunction d e
-  pub objects : (t u : Table) → Contains ts t → Contains ts u → (text : List ℕ) (d e : Data) → t.data_ text ≡ Some d → DefinesObject u text e → IsSameData d e
+  pub objects : (t u : Table) → Contains ts t → Contains ts u → (text : List ℕ) (d e : Data) → t.object text ≡ Some d → DefinesObject u text e → IsSameData d e
   pub kinds : (t u : Table) → Contains ts t → Contains ts u → (text : List ℕ) (d : Declared) (e : Data) → t.function text ≡ Some d → DefinesObject u text e → ⊥
-  pub other_kinds : (t u : Table) → Contains ts t → Contains ts u → (text : List ℕ) (d : Data) (e : Declared) → t.data_ text ≡ Some d → DefinesFunction u text e → ⊥
+  pub other_kinds : (t u : Table) → Contains ts t → Contains ts u → (text : List ℕ) (d : Data) (e : Declared) → t.object text ≡ Some d → DefinesFunction u text e → ⊥
   -- its directives are the definition's, or it has none
   pub directives : (t u : Table) → Contains ts t → Contains ts u → (text : List ℕ) (d e : Declared) → t.function text ≡ Some d → DefinesFunction u text e →
       (d.signatures ≡ []) ⊎ (d.signatures ≡ e.signatures)
@@ -94,7 +94,7 @@ objects_used (Some d) = names_made d.unit (first_point d) d.body
 
 abbrev pub table_of_unit : Subject → Table
 table_of_unit u = record {
-  data_ = data_in_unit u;
+  object = data_in_unit u;
   function = declared_in_unit u;
   calls = λ text. callees_of (definition_in text u);
   uses = λ text. objects_used (definition_in text u);
@@ -127,7 +127,7 @@ codes_in o text = option_and_then (λ (r : FunctionLists). r.codes) (row_in o te
 
 abbrev pub table_of_object : ObjectLists → Table
 table_of_object o = record {
-  data_ = data_in_object o;
+  object = data_in_object o;
   function = declared_in_object o;
   calls = λ text. code_calls o (codes_in o text);
   uses = λ text. code_uses o (codes_in o text);

@@ -151,7 +151,7 @@ module _ (units : List Subject) (image : Tables) (turns : ℕ) (d : Definition) 
   variant_target : (k : Candidate) → Contains (choices (goal_of image) m s.entry slot) k → IsVariantEntry text k y → MayCall place c linked n y y.kind
   variant_target k among is =
       subst (λ (q : EntryKind). MayCall place c linked n y q) (sym is.kind)
-      (may_variant place c linked n y k.length.masked (record { lanes = is.lanes_ ∙ x.lanes; fits = fits; does = does }))
+      (may_variant place c linked n y k.length.masked (record { lanes = is.lane_count ∙ x.lanes; fits = fits; does = does }))
     where
       x : IsCandidate m.object q.tells.row slot s.entry.lanes k
       x = is_candidate (goal_of image) m s.entry slot q.tells.row k q.tells.at among

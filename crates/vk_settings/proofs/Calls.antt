@@ -100,7 +100,7 @@ module _ (ps : List Pair) (image : Tables) (program : IsProgram ps image) (p : P
   place = setting_of (units_of ps) image turns d here (array_number image)
 
   linked_code : IsLinkedCode (objects_of ps) image plan.made code
-  linked_code = program.joins.codes_ x.code plan.made code running.planned.is.code code_is
+  linked_code = program.joins.linked_codes x.code plan.made code running.planned.is.code code_is
 
   pub linked : IsLinked (array_of_object image p.object) plan.made.code code
   linked = subst (λ (o : ObjectLists). IsLinked (array_of_object image o) plan.made.code code) running.object linked_code.linked
