@@ -1,8 +1,9 @@
 -- An image gives a setting of the makers' promises to each code without simd loops, so what they promise is agreement.
-use Rattle.std.proofs.Common.{◌≡◌, ◌<◌, ℕ, zero, suc, List, [], ◌∷◌, map, slice_get, Option, Some, None, refl, sym, ap, ◌∙◌, ℤ}
+use Rattle.std.proofs.Common.{◌≡◌, ◌≤◌, ◌^◌, length, ◌<◌, ℕ, zero, suc, List, [], ◌∷◌, map, slice_get, Option, Some, None, refl, sym, ap, ◌∙◌, ℤ}
 use Rattle.std.specs.Option.{option_and_then, option_map}
 use Rattle.std.proofs.lemmas.Simd.{map-map}
 use Rattle.vk_kinds.specs.Sizes.{SignatureTree}
+use Rattle.vk_rules_book.specs.Scopes.{text_of}
 use Rattle.vk_meaning.specs.World.{printed}
 use Rattle.vk_meaning.specs.Meaning.{means}
 use Rattle.vk_meaning.specs.Programs.{Definition, arrays_of, first_point}
@@ -17,7 +18,7 @@ use Rattle.vk_sites.specs.Loops.{LoopText}
 use Rattle.vk_sites.specs.Objects.{objects_of}
 use Rattle.vk_agree.specs.Agree.{IsTurnLimit, bodies_of, calls_for, is_body}
 use Rattle.vk_agree.specs.Units.{kinds_of, param_types}
-use Rattle.vk_joins.specs.Carries.{Pair, units_of}
+use Rattle.vk_joins.specs.Carries.{HasArraysOf, Pair, units_of}
 use Rattle.vk_joins.specs.Codes.{Manner, symbols_of}
 use Rattle.vk_joins.specs.Joins.{Planned, array_number, array_of_row}
 use Rattle.vk_joins.specs.Tables.{trimmed_array}
@@ -27,7 +28,8 @@ use Rattle.vk_promises.specs.Makers.{IsLaneCode, IsLocal, IsScalarCode, IsSettin
 use Rattle.vk_promises.specs.Places.{setting_of}
 use Rattle.vk_promises.specs.Settings.{HasObjects, IsMachine, RunsCode, Setting}
 use Rattle.vk_promises.proofs.Ends.{StandsInAnyRun, Unfolds, agrees_from, agrees_on_lanes_from, calls_uniform}
-use Rattle.vk_settings.specs.Programs.{IsProgram, IsRunning}
+use Rattle.vk_settings.specs.Programs.{IsProgram, IsRunning, ObjectsAreArrays}
+use Rattle.vk_settings.proofs.Numbers.{arrays_short, numbers_are}
 use Rattle.vk_settings.proofs.Calls.{calls_are_right, linked}
 
 -- no body is called for a printed number
@@ -66,6 +68,17 @@ module _ (ps : List Pair) (image : Tables) (program : IsProgram ps image) (p : P
   site_is =
       ap (option_and_then (λ (y : EntryLists). option_map (site_at image turns (entry_at image turns 63) y) (code_of image y))) running.planned.entry ∙
       ap (option_map (site_at image turns (entry_at image turns 63) x)) code_is
+
+  arrays : HasArraysOf image (units_of ps)
+  arrays = arrays_are image ps program.valid program.accepted program.tables program.joins
+
+  pub has_objects : ObjectsAreArrays d (objects_of (first_point d) d.body) own_setting → length (arrays_of (units_of ps)) ≤ 2 ^ 31 → HasObjects d (objects_of (first_point d) d.body) own_setting
+  has_objects objects few = record {
+    numbers = λ id. numbers_are image (units_of ps) arrays (text_of d.unit.texts id);
+    objects = objects;
+    few = few;
+    short = arrays_short image (units_of ps) program.valid arrays;
+  }
 
   module _ (no_loops : own_loops d ≡ []) (objects : HasObjects d (objects_of (first_point d) d.body) own_setting) (any_run : StandsInAnyRun (units_of ps) turns) where
     setting_is : IsSetting d (symbols_of p.object) plan.made.code own_setting e

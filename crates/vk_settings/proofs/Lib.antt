@@ -1,4 +1,5 @@
 mod Heads
 mod Told
 mod Calls
+mod Numbers
 mod Agreeing

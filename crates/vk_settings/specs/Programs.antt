@@ -1,9 +1,11 @@
 -- A program of objects and units, and a code of it that runs.
-use Rattle.std.specs.Prelude.{◌≡◌, ℕ, true, false, List, [], Some, Contains}
+use Rattle.std.specs.Prelude.{◌≡◌, ◌≤◌, ◌^◌, Bool, length, ℕ, true, false, List, [], Some, Contains}
 use Rattle.std.specs.Option.{option_map}
+use Rattle.vk_types.specs.declared.types.Ty.{Ty}
+use Rattle.vk_ast.specs.declared.names.NameId.{NameId}
 use Rattle.vk_rules_book.specs.Rules.{Subject}
-use Rattle.vk_rules_book.specs.Scopes.{text_of}
-use Rattle.vk_meaning.specs.Programs.{Definition, definition_of, first_point}
+use Rattle.vk_rules_book.specs.Scopes.{an_object, text_of}
+use Rattle.vk_meaning.specs.Programs.{Definition, arrays_of, definition_of, first_point}
 use Rattle.vk_code.specs.Listing.{CallSite, Listing}
 use Rattle.vk_object.specs.Images.{code_of, is_image}
 use Rattle.vk_object.specs.Machine.{entry_at, site_at}
@@ -19,7 +21,7 @@ use Rattle.vk_joins.specs.Joins.{IsPlannedEntry, Joins, Planned, array_number}
 use Rattle.vk_joins.specs.Links.{DoUnitsLink, body_calls}
 use Rattle.vk_joins.specs.Tables.{Declared, declared_in_unit}
 use Rattle.vk_promises.specs.Places.{TellsOf, setting_of}
-use Rattle.vk_promises.specs.Settings.{HasObjects, Setting, types_called}
+use Rattle.vk_promises.specs.Settings.{IsArrayOf, Setting, types_called}
 
 -- accepted units that link, objects that tell the same names, and a valid image that joins the objects
 pub record IsProgram (ps : List Pair) (image : Tables) : Type 0 where
@@ -57,9 +59,16 @@ pub record IsTold (ps : List Pair) (p : Pair) (slot : CallSite) (name : List ℕ
 abbrev pub running_setting : List Pair → Tables → (turns : ℕ) → Definition → EntryLists → Listing → Setting
 running_setting ps image turns d x code = setting_of (units_of ps) image turns d (site_at image turns (entry_at image turns 63) x code) (array_number image)
 
--- A function of the program without simd loops, with its running code: the objects that it names are arrays of their types.
+-- Of the objects of a definition that a text names, each is an array of the program, of the declared type.
+abbrev pub ObjectsAreArrays : Definition → List NameId → Setting → Type 0
+ObjectsAreArrays d ids t = (id : NameId) (ty : Ty) (is_array fixed : Bool) → Contains ids id → (first_point d).scope.file id ≡ Some (an_object ty is_array fixed) →
+    IsArrayOf t (t.context.array id) ty is_array fixed
+
+-- A function of the program without simd loops, with its running code. The objects that it names are arrays, which are few enough for
+-- words of pointers.
 pub record IsRunningAlone (ps : List Pair) (image : Tables) (turns : ℕ) (d : Definition) (x : EntryLists) (code : Listing) : Type 0 where
   pub limit : IsTurnLimit turns
   pub code_is : code_of image x ≡ Some code
   pub no_loops : own_loops d ≡ []
-  pub objects : HasObjects d (objects_named (first_point d) d.body) (running_setting ps image turns d x code)
+  pub objects : ObjectsAreArrays d (objects_named (first_point d) d.body) (running_setting ps image turns d x code)
+  pub few : length (arrays_of (units_of ps)) ≤ 2 ^ 31
