@@ -1,4 +1,5 @@
--- Functions with directives: which calls are always made, and the shapes of parameters.
+-- Functions with directives: which calls are always made, and the shapes of parameters. The C text of each unit stands over it; `[simd]` is a line
+-- `#pragma omp simd`.
 use Rattle.std.specs.Prelude.{◌≡◌, true, false, [], ◌∷◌, codes, Some, None, refl, pos}
 use Rattle.std.specs.Int.{int_wrap}
 use Rattle.vk_types.specs.Operators.{from_bits}
@@ -20,6 +21,15 @@ use Rattle.vk_rules_book.specs.Typings.{are_arguments, choice_typing}
 use Rattle.vk_code.specs.declared.code.Shape.TheVariants.{Vector, Uniform, By, Along, Literal, Same}
 use Rattle.vk_joins_tests.proofs.Forms.{counts, id, lane_calls, line, loop_calls, loop_captures, param, plain_calls}
 
+-- int f(int v, int w, long z, int l) { return v; }
+-- int g(int v, int w, long z, int l) { int a = f(v, w, z, l); if (f(v + 1, w, w, l + w)) a = f(v, w, z, 1); a = f(1, 2, 3, 4)
+--     && f(v - 2, w, z, l); a = a || f(f(w, z, v, l), w, z, l); a = f(a, w, z, l) ? f(v, w, z, l) : 1; while (f(v, 1, 2, 3)) {
+--     a += 1; continue; } w = f(v, w, z, l); { if (a) return f(v, w, z, l); a = f(v, w, z, l); } return f((short)v, (unsigned
+--     int)w, (int)z, (long)l); }
+-- int y[9];
+-- void m(int n) { [simd] for (long i = n; i < (n + 9); i += 1) { y[i] = f(i, n, n, 1); for (int j = 0; j < 2; j += 1) { y[i] =
+--     f(j, n, n, 1); if (j) continue; } if (f(i, 1, i, n)) continue; y[i] = f(i, n, n, 1); } for (int q = f(1, 2, 3, 4); f(1,
+--     2, 3, 4) < 2; q += f(1, 2, 3, 4)) { do { if (q) f(1, 2, 3, 4); } while (q > 1); } }
 abbrev flags : Subject
 flags = record {
   items =
@@ -31,54 +41,54 @@ flags = record {
   target = X86;
 }
 
-flags_f_plain_9 : plain_calls flags (codes "f") ≡ []
+flags_f_plain : plain_calls flags (codes "f") ≡ []
 unfolding int_wrap from_bits first_declaration last_binding meaning_of with_params are_arguments choice_typing length_of constant_of simdlen_in
-flags_f_plain_9 = refl
+flags_f_plain = refl
 
-flags_f_lanes_10 : lane_calls flags (codes "f") (param (kinds.Linear (steps.By (pos 3))) ∷ param kinds.Uniform ∷ param kinds.Uniform ∷ param (kinds.Linear (steps.Arg 1)) ∷ []) ≡ []
+flags_f_lanes : lane_calls flags (codes "f") (param (kinds.Linear (steps.By (pos 3))) ∷ param kinds.Uniform ∷ param kinds.Uniform ∷ param (kinds.Linear (steps.Arg 1)) ∷ []) ≡ []
 unfolding int_wrap from_bits first_declaration last_binding meaning_of with_params are_arguments choice_typing length_of constant_of simdlen_in
-flags_f_lanes_10 = refl
+flags_f_lanes = refl
 
-flags_f_loops_11 : loop_calls flags (codes "f") ≡ []
+flags_f_loops : loop_calls flags (codes "f") ≡ []
 unfolding int_wrap from_bits first_declaration last_binding meaning_of with_params are_arguments choice_typing length_of constant_of simdlen_in
-flags_f_loops_11 = refl
+flags_f_loops = refl
 
-flags_f_counts_12 : counts flags (codes "f") ≡ 0 ∷ 7 ∷ 7 ∷ 0 ∷ []
+flags_f_counts : counts flags (codes "f") ≡ 0 ∷ 7 ∷ 7 ∷ 0 ∷ []
 unfolding int_wrap from_bits first_declaration last_binding meaning_of with_params are_arguments choice_typing length_of constant_of simdlen_in
-flags_f_counts_12 = refl
+flags_f_counts = refl
 
-flags_g_plain_13 : plain_calls flags (codes "g") ≡ record { callee = codes "f"; always = false; shapes = (Vector) ∷ (Vector) ∷ (Vector) ∷ (Vector) ∷ [] } ∷ record { callee = codes "f"; always = false; shapes = (Vector) ∷ (Vector) ∷ (Vector) ∷ (Vector) ∷ [] } ∷ record { callee = codes "f"; always = false; shapes = (Vector) ∷ (Vector) ∷ (Vector) ∷ (Vector) ∷ [] } ∷ record { callee = codes "f"; always = false; shapes = (Vector) ∷ (Vector) ∷ (Vector) ∷ (Vector) ∷ [] } ∷ record { callee = codes "f"; always = false; shapes = (Vector) ∷ (Vector) ∷ (Vector) ∷ (Vector) ∷ [] } ∷ record { callee = codes "f"; always = false; shapes = (Vector) ∷ (Vector) ∷ (Vector) ∷ (Vector) ∷ [] } ∷ record { callee = codes "f"; always = false; shapes = (Vector) ∷ (Vector) ∷ (Vector) ∷ (Vector) ∷ [] } ∷ record { callee = codes "f"; always = false; shapes = (Vector) ∷ (Vector) ∷ (Vector) ∷ (Vector) ∷ [] } ∷ record { callee = codes "f"; always = false; shapes = (Vector) ∷ (Vector) ∷ (Vector) ∷ (Vector) ∷ [] } ∷ record { callee = codes "f"; always = false; shapes = (Vector) ∷ (Vector) ∷ (Vector) ∷ (Vector) ∷ [] } ∷ record { callee = codes "f"; always = false; shapes = (Vector) ∷ (Vector) ∷ (Vector) ∷ (Vector) ∷ [] } ∷ record { callee = codes "f"; always = false; shapes = (Vector) ∷ (Vector) ∷ (Vector) ∷ (Vector) ∷ [] } ∷ record { callee = codes "f"; always = false; shapes = (Vector) ∷ (Vector) ∷ (Vector) ∷ (Vector) ∷ [] } ∷ record { callee = codes "f"; always = false; shapes = (Vector) ∷ (Vector) ∷ (Vector) ∷ (Vector) ∷ [] } ∷ []
+flags_g_plain : plain_calls flags (codes "g") ≡ record { callee = codes "f"; always = false; shapes = (Vector) ∷ (Vector) ∷ (Vector) ∷ (Vector) ∷ [] } ∷ record { callee = codes "f"; always = false; shapes = (Vector) ∷ (Vector) ∷ (Vector) ∷ (Vector) ∷ [] } ∷ record { callee = codes "f"; always = false; shapes = (Vector) ∷ (Vector) ∷ (Vector) ∷ (Vector) ∷ [] } ∷ record { callee = codes "f"; always = false; shapes = (Vector) ∷ (Vector) ∷ (Vector) ∷ (Vector) ∷ [] } ∷ record { callee = codes "f"; always = false; shapes = (Vector) ∷ (Vector) ∷ (Vector) ∷ (Vector) ∷ [] } ∷ record { callee = codes "f"; always = false; shapes = (Vector) ∷ (Vector) ∷ (Vector) ∷ (Vector) ∷ [] } ∷ record { callee = codes "f"; always = false; shapes = (Vector) ∷ (Vector) ∷ (Vector) ∷ (Vector) ∷ [] } ∷ record { callee = codes "f"; always = false; shapes = (Vector) ∷ (Vector) ∷ (Vector) ∷ (Vector) ∷ [] } ∷ record { callee = codes "f"; always = false; shapes = (Vector) ∷ (Vector) ∷ (Vector) ∷ (Vector) ∷ [] } ∷ record { callee = codes "f"; always = false; shapes = (Vector) ∷ (Vector) ∷ (Vector) ∷ (Vector) ∷ [] } ∷ record { callee = codes "f"; always = false; shapes = (Vector) ∷ (Vector) ∷ (Vector) ∷ (Vector) ∷ [] } ∷ record { callee = codes "f"; always = false; shapes = (Vector) ∷ (Vector) ∷ (Vector) ∷ (Vector) ∷ [] } ∷ record { callee = codes "f"; always = false; shapes = (Vector) ∷ (Vector) ∷ (Vector) ∷ (Vector) ∷ [] } ∷ record { callee = codes "f"; always = false; shapes = (Vector) ∷ (Vector) ∷ (Vector) ∷ (Vector) ∷ [] } ∷ []
 unfolding int_wrap from_bits first_declaration last_binding meaning_of with_params are_arguments choice_typing length_of constant_of simdlen_in
-flags_g_plain_13 = refl
+flags_g_plain = refl
 
-flags_g_lanes_14 : lane_calls flags (codes "g") (param (kinds.Linear (steps.By (pos 3))) ∷ param kinds.Uniform ∷ param kinds.Uniform ∷ param (kinds.Linear (steps.Arg 1)) ∷ []) ≡ record { callee = codes "f"; always = true; shapes = (By (pos 3)) ∷ (Vector) ∷ (Same 2) ∷ (Along 1) ∷ [] } ∷ record { callee = codes "f"; always = true; shapes = (By (pos 3)) ∷ (Vector) ∷ (Vector) ∷ (Vector) ∷ [] } ∷ record { callee = codes "f"; always = false; shapes = (By (pos 3)) ∷ (Vector) ∷ (Same 2) ∷ (Literal (pos 1)) ∷ [] } ∷ record { callee = codes "f"; always = true; shapes = (Literal (pos 1)) ∷ (Literal (pos 2)) ∷ (Literal (pos 3)) ∷ (Literal (pos 4)) ∷ [] } ∷ record { callee = codes "f"; always = false; shapes = (By (pos 3)) ∷ (Vector) ∷ (Same 2) ∷ (Along 1) ∷ [] } ∷ record { callee = codes "f"; always = false; shapes = (Vector) ∷ (Vector) ∷ (Same 2) ∷ (Along 1) ∷ [] } ∷ record { callee = codes "f"; always = false; shapes = (Vector) ∷ (Uniform) ∷ (Vector) ∷ (Along 1) ∷ [] } ∷ record { callee = codes "f"; always = true; shapes = (Vector) ∷ (Vector) ∷ (Same 2) ∷ (Along 1) ∷ [] } ∷ record { callee = codes "f"; always = false; shapes = (By (pos 3)) ∷ (Vector) ∷ (Same 2) ∷ (Along 1) ∷ [] } ∷ record { callee = codes "f"; always = false; shapes = (By (pos 3)) ∷ (Literal (pos 1)) ∷ (Literal (pos 2)) ∷ (Literal (pos 3)) ∷ [] } ∷ record { callee = codes "f"; always = true; shapes = (By (pos 3)) ∷ (Vector) ∷ (Same 2) ∷ (Along 1) ∷ [] } ∷ record { callee = codes "f"; always = false; shapes = (By (pos 3)) ∷ (Vector) ∷ (Same 2) ∷ (Along 1) ∷ [] } ∷ record { callee = codes "f"; always = false; shapes = (By (pos 3)) ∷ (Vector) ∷ (Same 2) ∷ (Along 1) ∷ [] } ∷ record { callee = codes "f"; always = false; shapes = (Vector) ∷ (Vector) ∷ (Uniform) ∷ (Vector) ∷ [] } ∷ []
+flags_g_lanes : lane_calls flags (codes "g") (param (kinds.Linear (steps.By (pos 3))) ∷ param kinds.Uniform ∷ param kinds.Uniform ∷ param (kinds.Linear (steps.Arg 1)) ∷ []) ≡ record { callee = codes "f"; always = true; shapes = (By (pos 3)) ∷ (Vector) ∷ (Same 2) ∷ (Along 1) ∷ [] } ∷ record { callee = codes "f"; always = true; shapes = (By (pos 3)) ∷ (Vector) ∷ (Vector) ∷ (Vector) ∷ [] } ∷ record { callee = codes "f"; always = false; shapes = (By (pos 3)) ∷ (Vector) ∷ (Same 2) ∷ (Literal (pos 1)) ∷ [] } ∷ record { callee = codes "f"; always = true; shapes = (Literal (pos 1)) ∷ (Literal (pos 2)) ∷ (Literal (pos 3)) ∷ (Literal (pos 4)) ∷ [] } ∷ record { callee = codes "f"; always = false; shapes = (By (pos 3)) ∷ (Vector) ∷ (Same 2) ∷ (Along 1) ∷ [] } ∷ record { callee = codes "f"; always = false; shapes = (Vector) ∷ (Vector) ∷ (Same 2) ∷ (Along 1) ∷ [] } ∷ record { callee = codes "f"; always = false; shapes = (Vector) ∷ (Uniform) ∷ (Vector) ∷ (Along 1) ∷ [] } ∷ record { callee = codes "f"; always = true; shapes = (Vector) ∷ (Vector) ∷ (Same 2) ∷ (Along 1) ∷ [] } ∷ record { callee = codes "f"; always = false; shapes = (By (pos 3)) ∷ (Vector) ∷ (Same 2) ∷ (Along 1) ∷ [] } ∷ record { callee = codes "f"; always = false; shapes = (By (pos 3)) ∷ (Literal (pos 1)) ∷ (Literal (pos 2)) ∷ (Literal (pos 3)) ∷ [] } ∷ record { callee = codes "f"; always = true; shapes = (By (pos 3)) ∷ (Vector) ∷ (Same 2) ∷ (Along 1) ∷ [] } ∷ record { callee = codes "f"; always = false; shapes = (By (pos 3)) ∷ (Vector) ∷ (Same 2) ∷ (Along 1) ∷ [] } ∷ record { callee = codes "f"; always = false; shapes = (By (pos 3)) ∷ (Vector) ∷ (Same 2) ∷ (Along 1) ∷ [] } ∷ record { callee = codes "f"; always = false; shapes = (Vector) ∷ (Vector) ∷ (Uniform) ∷ (Vector) ∷ [] } ∷ []
 unfolding int_wrap from_bits first_declaration last_binding meaning_of with_params are_arguments choice_typing length_of constant_of simdlen_in
-flags_g_lanes_14 = refl
+flags_g_lanes = refl
 
-flags_g_lanes_15 : lane_calls flags (codes "g") (param kinds.Uniform ∷ param kinds.Vector ∷ param kinds.Uniform ∷ param kinds.Vector ∷ []) ≡ record { callee = codes "f"; always = true; shapes = (Same 0) ∷ (Vector) ∷ (Same 2) ∷ (Vector) ∷ [] } ∷ record { callee = codes "f"; always = true; shapes = (Uniform) ∷ (Vector) ∷ (Vector) ∷ (Vector) ∷ [] } ∷ record { callee = codes "f"; always = false; shapes = (Same 0) ∷ (Vector) ∷ (Same 2) ∷ (Literal (pos 1)) ∷ [] } ∷ record { callee = codes "f"; always = true; shapes = (Literal (pos 1)) ∷ (Literal (pos 2)) ∷ (Literal (pos 3)) ∷ (Literal (pos 4)) ∷ [] } ∷ record { callee = codes "f"; always = false; shapes = (Uniform) ∷ (Vector) ∷ (Same 2) ∷ (Vector) ∷ [] } ∷ record { callee = codes "f"; always = false; shapes = (Vector) ∷ (Vector) ∷ (Same 2) ∷ (Vector) ∷ [] } ∷ record { callee = codes "f"; always = false; shapes = (Vector) ∷ (Uniform) ∷ (Uniform) ∷ (Vector) ∷ [] } ∷ record { callee = codes "f"; always = true; shapes = (Vector) ∷ (Vector) ∷ (Same 2) ∷ (Vector) ∷ [] } ∷ record { callee = codes "f"; always = false; shapes = (Same 0) ∷ (Vector) ∷ (Same 2) ∷ (Vector) ∷ [] } ∷ record { callee = codes "f"; always = false; shapes = (Same 0) ∷ (Literal (pos 1)) ∷ (Literal (pos 2)) ∷ (Literal (pos 3)) ∷ [] } ∷ record { callee = codes "f"; always = true; shapes = (Same 0) ∷ (Vector) ∷ (Same 2) ∷ (Vector) ∷ [] } ∷ record { callee = codes "f"; always = false; shapes = (Same 0) ∷ (Vector) ∷ (Same 2) ∷ (Vector) ∷ [] } ∷ record { callee = codes "f"; always = false; shapes = (Same 0) ∷ (Vector) ∷ (Same 2) ∷ (Vector) ∷ [] } ∷ record { callee = codes "f"; always = false; shapes = (Uniform) ∷ (Vector) ∷ (Uniform) ∷ (Vector) ∷ [] } ∷ []
+flags_g_lanes_again : lane_calls flags (codes "g") (param kinds.Uniform ∷ param kinds.Vector ∷ param kinds.Uniform ∷ param kinds.Vector ∷ []) ≡ record { callee = codes "f"; always = true; shapes = (Same 0) ∷ (Vector) ∷ (Same 2) ∷ (Vector) ∷ [] } ∷ record { callee = codes "f"; always = true; shapes = (Uniform) ∷ (Vector) ∷ (Vector) ∷ (Vector) ∷ [] } ∷ record { callee = codes "f"; always = false; shapes = (Same 0) ∷ (Vector) ∷ (Same 2) ∷ (Literal (pos 1)) ∷ [] } ∷ record { callee = codes "f"; always = true; shapes = (Literal (pos 1)) ∷ (Literal (pos 2)) ∷ (Literal (pos 3)) ∷ (Literal (pos 4)) ∷ [] } ∷ record { callee = codes "f"; always = false; shapes = (Uniform) ∷ (Vector) ∷ (Same 2) ∷ (Vector) ∷ [] } ∷ record { callee = codes "f"; always = false; shapes = (Vector) ∷ (Vector) ∷ (Same 2) ∷ (Vector) ∷ [] } ∷ record { callee = codes "f"; always = false; shapes = (Vector) ∷ (Uniform) ∷ (Uniform) ∷ (Vector) ∷ [] } ∷ record { callee = codes "f"; always = true; shapes = (Vector) ∷ (Vector) ∷ (Same 2) ∷ (Vector) ∷ [] } ∷ record { callee = codes "f"; always = false; shapes = (Same 0) ∷ (Vector) ∷ (Same 2) ∷ (Vector) ∷ [] } ∷ record { callee = codes "f"; always = false; shapes = (Same 0) ∷ (Literal (pos 1)) ∷ (Literal (pos 2)) ∷ (Literal (pos 3)) ∷ [] } ∷ record { callee = codes "f"; always = true; shapes = (Same 0) ∷ (Vector) ∷ (Same 2) ∷ (Vector) ∷ [] } ∷ record { callee = codes "f"; always = false; shapes = (Same 0) ∷ (Vector) ∷ (Same 2) ∷ (Vector) ∷ [] } ∷ record { callee = codes "f"; always = false; shapes = (Same 0) ∷ (Vector) ∷ (Same 2) ∷ (Vector) ∷ [] } ∷ record { callee = codes "f"; always = false; shapes = (Uniform) ∷ (Vector) ∷ (Uniform) ∷ (Vector) ∷ [] } ∷ []
 unfolding int_wrap from_bits first_declaration last_binding meaning_of with_params are_arguments choice_typing length_of constant_of simdlen_in
-flags_g_lanes_15 = refl
+flags_g_lanes_again = refl
 
-flags_g_loops_16 : loop_calls flags (codes "g") ≡ []
+flags_g_loops : loop_calls flags (codes "g") ≡ []
 unfolding int_wrap from_bits first_declaration last_binding meaning_of with_params are_arguments choice_typing length_of constant_of simdlen_in
-flags_g_loops_16 = refl
+flags_g_loops = refl
 
-flags_g_counts_17 : counts flags (codes "g") ≡ 1 ∷ 115 ∷ 115 ∷ 0 ∷ []
+flags_g_counts : counts flags (codes "g") ≡ 1 ∷ 115 ∷ 115 ∷ 0 ∷ []
 unfolding int_wrap from_bits first_declaration last_binding meaning_of with_params are_arguments choice_typing length_of constant_of simdlen_in
-flags_g_counts_17 = refl
+flags_g_counts = refl
 
-flags_m_plain_18 : plain_calls flags (codes "m") ≡ record { callee = codes "f"; always = false; shapes = (Vector) ∷ (Vector) ∷ (Vector) ∷ (Vector) ∷ [] } ∷ record { callee = codes "f"; always = false; shapes = (Vector) ∷ (Vector) ∷ (Vector) ∷ (Vector) ∷ [] } ∷ record { callee = codes "f"; always = false; shapes = (Vector) ∷ (Vector) ∷ (Vector) ∷ (Vector) ∷ [] } ∷ record { callee = codes "f"; always = false; shapes = (Vector) ∷ (Vector) ∷ (Vector) ∷ (Vector) ∷ [] } ∷ []
+flags_m_plain : plain_calls flags (codes "m") ≡ record { callee = codes "f"; always = false; shapes = (Vector) ∷ (Vector) ∷ (Vector) ∷ (Vector) ∷ [] } ∷ record { callee = codes "f"; always = false; shapes = (Vector) ∷ (Vector) ∷ (Vector) ∷ (Vector) ∷ [] } ∷ record { callee = codes "f"; always = false; shapes = (Vector) ∷ (Vector) ∷ (Vector) ∷ (Vector) ∷ [] } ∷ record { callee = codes "f"; always = false; shapes = (Vector) ∷ (Vector) ∷ (Vector) ∷ (Vector) ∷ [] } ∷ []
 unfolding int_wrap from_bits first_declaration last_binding meaning_of with_params are_arguments choice_typing length_of constant_of simdlen_in
-flags_m_plain_18 = refl
+flags_m_plain = refl
 
-flags_m_loops_19 : loop_calls flags (codes "m") ≡ (record { callee = codes "f"; always = true; shapes = (By (pos 1)) ∷ (Uniform) ∷ (Uniform) ∷ (Literal (pos 1)) ∷ [] } ∷ record { callee = codes "f"; always = false; shapes = (Vector) ∷ (Uniform) ∷ (Uniform) ∷ (Literal (pos 1)) ∷ [] } ∷ record { callee = codes "f"; always = true; shapes = (By (pos 1)) ∷ (Literal (pos 1)) ∷ (By (pos 1)) ∷ (Uniform) ∷ [] } ∷ record { callee = codes "f"; always = false; shapes = (By (pos 1)) ∷ (Uniform) ∷ (Uniform) ∷ (Literal (pos 1)) ∷ [] } ∷ []) ∷ []
+flags_m_loops : loop_calls flags (codes "m") ≡ (record { callee = codes "f"; always = true; shapes = (By (pos 1)) ∷ (Uniform) ∷ (Uniform) ∷ (Literal (pos 1)) ∷ [] } ∷ record { callee = codes "f"; always = false; shapes = (Vector) ∷ (Uniform) ∷ (Uniform) ∷ (Literal (pos 1)) ∷ [] } ∷ record { callee = codes "f"; always = true; shapes = (By (pos 1)) ∷ (Literal (pos 1)) ∷ (By (pos 1)) ∷ (Uniform) ∷ [] } ∷ record { callee = codes "f"; always = false; shapes = (By (pos 1)) ∷ (Uniform) ∷ (Uniform) ∷ (Literal (pos 1)) ∷ [] } ∷ []) ∷ []
 unfolding int_wrap from_bits first_declaration last_binding meaning_of with_params are_arguments choice_typing length_of constant_of simdlen_in
-flags_m_loops_19 = refl
+flags_m_loops = refl
 
-flags_m_captures_20 : loop_captures flags (codes "m") ≡ (0 ∷ []) ∷ []
+flags_m_captures : loop_captures flags (codes "m") ≡ (0 ∷ []) ∷ []
 unfolding int_wrap from_bits first_declaration last_binding meaning_of with_params are_arguments choice_typing length_of constant_of simdlen_in
-flags_m_captures_20 = refl
+flags_m_captures = refl
 
-flags_m_counts_21 : counts flags (codes "m") ≡ 2 ∷ 51 ∷ 100 ∷ 1 ∷ 49 ∷ []
+flags_m_counts : counts flags (codes "m") ≡ 2 ∷ 51 ∷ 100 ∷ 1 ∷ 49 ∷ []
 unfolding int_wrap from_bits first_declaration last_binding meaning_of with_params are_arguments choice_typing length_of constant_of simdlen_in
-flags_m_counts_21 = refl
+flags_m_counts = refl

@@ -1,4 +1,5 @@
--- Shapes of pointers.
+-- Shapes of pointers. The C text of each unit stands over it; `[simd]` is a line
+-- `#pragma omp simd`.
 use Rattle.std.specs.Prelude.{◌≡◌, true, false, [], ◌∷◌, codes, Some, refl, pos}
 use Rattle.std.specs.Int.{int_wrap}
 use Rattle.vk_types.specs.Operators.{from_bits}
@@ -20,6 +21,9 @@ use Rattle.vk_rules_book.specs.Typings.{are_arguments, choice_typing}
 use Rattle.vk_code.specs.declared.code.Shape.TheVariants.{Vector, Uniform, By, Along, Literal, Same}
 use Rattle.vk_joins_tests.proofs.Forms.{counts, id, lane_calls, loop_calls, param, plain_calls}
 
+-- int f(const int *t, int *p, const int *r, int n, const int *o) { return *p; }
+-- int g(const int *t, int *p, const int *r, int n, const int *o) { return ((f(t + n, p, r + n, n, o) + f(t, p, r - 1, n + 0,
+--     &o[n])) + f(&t[2], p, n + r, 5, o - n)) + f(r, p, t, n, t); }
 abbrev ptr : Subject
 ptr = record {
   items =
@@ -29,34 +33,34 @@ ptr = record {
   target = X86;
 }
 
-ptr_f_plain_22 : plain_calls ptr (codes "f") ≡ []
+ptr_f_plain : plain_calls ptr (codes "f") ≡ []
 unfolding int_wrap from_bits first_declaration last_binding meaning_of with_params are_arguments choice_typing length_of constant_of simdlen_in
-ptr_f_plain_22 = refl
+ptr_f_plain = refl
 
-ptr_f_lanes_23 : lane_calls ptr (codes "f") (param kinds.Uniform ∷ param (kinds.Linear (steps.By (pos 4))) ∷ param (kinds.Linear (steps.By (pos 48))) ∷ param kinds.Uniform ∷ param (kinds.Linear (steps.Arg 3)) ∷ []) ≡ []
+ptr_f_lanes : lane_calls ptr (codes "f") (param kinds.Uniform ∷ param (kinds.Linear (steps.By (pos 4))) ∷ param (kinds.Linear (steps.By (pos 48))) ∷ param kinds.Uniform ∷ param (kinds.Linear (steps.Arg 3)) ∷ []) ≡ []
 unfolding int_wrap from_bits first_declaration last_binding meaning_of with_params are_arguments choice_typing length_of constant_of simdlen_in
-ptr_f_lanes_23 = refl
+ptr_f_lanes = refl
 
-ptr_f_loops_24 : loop_calls ptr (codes "f") ≡ []
+ptr_f_loops : loop_calls ptr (codes "f") ≡ []
 unfolding int_wrap from_bits first_declaration last_binding meaning_of with_params are_arguments choice_typing length_of constant_of simdlen_in
-ptr_f_loops_24 = refl
+ptr_f_loops = refl
 
-ptr_f_counts_25 : counts ptr (codes "f") ≡ 0 ∷ 9 ∷ 9 ∷ 0 ∷ []
+ptr_f_counts : counts ptr (codes "f") ≡ 0 ∷ 9 ∷ 9 ∷ 0 ∷ []
 unfolding int_wrap from_bits first_declaration last_binding meaning_of with_params are_arguments choice_typing length_of constant_of simdlen_in
-ptr_f_counts_25 = refl
+ptr_f_counts = refl
 
-ptr_g_plain_26 : plain_calls ptr (codes "g") ≡ record { callee = codes "f"; always = false; shapes = (Vector) ∷ (Vector) ∷ (Vector) ∷ (Vector) ∷ (Vector) ∷ [] } ∷ record { callee = codes "f"; always = false; shapes = (Vector) ∷ (Vector) ∷ (Vector) ∷ (Vector) ∷ (Vector) ∷ [] } ∷ record { callee = codes "f"; always = false; shapes = (Vector) ∷ (Vector) ∷ (Vector) ∷ (Vector) ∷ (Vector) ∷ [] } ∷ record { callee = codes "f"; always = false; shapes = (Vector) ∷ (Vector) ∷ (Vector) ∷ (Vector) ∷ (Vector) ∷ [] } ∷ []
+ptr_g_plain : plain_calls ptr (codes "g") ≡ record { callee = codes "f"; always = false; shapes = (Vector) ∷ (Vector) ∷ (Vector) ∷ (Vector) ∷ (Vector) ∷ [] } ∷ record { callee = codes "f"; always = false; shapes = (Vector) ∷ (Vector) ∷ (Vector) ∷ (Vector) ∷ (Vector) ∷ [] } ∷ record { callee = codes "f"; always = false; shapes = (Vector) ∷ (Vector) ∷ (Vector) ∷ (Vector) ∷ (Vector) ∷ [] } ∷ record { callee = codes "f"; always = false; shapes = (Vector) ∷ (Vector) ∷ (Vector) ∷ (Vector) ∷ (Vector) ∷ [] } ∷ []
 unfolding int_wrap from_bits first_declaration last_binding meaning_of with_params are_arguments choice_typing length_of constant_of simdlen_in
-ptr_g_plain_26 = refl
+ptr_g_plain = refl
 
-ptr_g_lanes_27 : lane_calls ptr (codes "g") (param kinds.Uniform ∷ param (kinds.Linear (steps.By (pos 4))) ∷ param (kinds.Linear (steps.By (pos 48))) ∷ param kinds.Uniform ∷ param (kinds.Linear (steps.Arg 3)) ∷ []) ≡ record { callee = codes "f"; always = true; shapes = (Uniform) ∷ (By (pos 1)) ∷ (By (pos 12)) ∷ (Same 3) ∷ (Along 3) ∷ [] } ∷ record { callee = codes "f"; always = true; shapes = (Same 0) ∷ (By (pos 1)) ∷ (By (pos 12)) ∷ (Uniform) ∷ (Along 3) ∷ [] } ∷ record { callee = codes "f"; always = true; shapes = (Uniform) ∷ (By (pos 1)) ∷ (By (pos 12)) ∷ (Literal (pos 5)) ∷ (Along 3) ∷ [] } ∷ record { callee = codes "f"; always = true; shapes = (By (pos 12)) ∷ (By (pos 1)) ∷ (Same 0) ∷ (Same 3) ∷ (Same 0) ∷ [] } ∷ []
+ptr_g_lanes : lane_calls ptr (codes "g") (param kinds.Uniform ∷ param (kinds.Linear (steps.By (pos 4))) ∷ param (kinds.Linear (steps.By (pos 48))) ∷ param kinds.Uniform ∷ param (kinds.Linear (steps.Arg 3)) ∷ []) ≡ record { callee = codes "f"; always = true; shapes = (Uniform) ∷ (By (pos 1)) ∷ (By (pos 12)) ∷ (Same 3) ∷ (Along 3) ∷ [] } ∷ record { callee = codes "f"; always = true; shapes = (Same 0) ∷ (By (pos 1)) ∷ (By (pos 12)) ∷ (Uniform) ∷ (Along 3) ∷ [] } ∷ record { callee = codes "f"; always = true; shapes = (Uniform) ∷ (By (pos 1)) ∷ (By (pos 12)) ∷ (Literal (pos 5)) ∷ (Along 3) ∷ [] } ∷ record { callee = codes "f"; always = true; shapes = (By (pos 12)) ∷ (By (pos 1)) ∷ (Same 0) ∷ (Same 3) ∷ (Same 0) ∷ [] } ∷ []
 unfolding int_wrap from_bits first_declaration last_binding meaning_of with_params are_arguments choice_typing length_of constant_of simdlen_in
-ptr_g_lanes_27 = refl
+ptr_g_lanes = refl
 
-ptr_g_loops_28 : loop_calls ptr (codes "g") ≡ []
+ptr_g_loops : loop_calls ptr (codes "g") ≡ []
 unfolding int_wrap from_bits first_declaration last_binding meaning_of with_params are_arguments choice_typing length_of constant_of simdlen_in
-ptr_g_loops_28 = refl
+ptr_g_loops = refl
 
-ptr_g_counts_29 : counts ptr (codes "g") ≡ 0 ∷ 52 ∷ 52 ∷ 0 ∷ []
+ptr_g_counts : counts ptr (codes "g") ≡ 0 ∷ 52 ∷ 52 ∷ 0 ∷ []
 unfolding int_wrap from_bits first_declaration last_binding meaning_of with_params are_arguments choice_typing length_of constant_of simdlen_in
-ptr_g_counts_29 = refl
+ptr_g_counts = refl

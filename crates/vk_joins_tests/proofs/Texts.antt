@@ -1,4 +1,5 @@
--- Simd loops: calls in their bodies, and arguments of all shapes.
+-- Simd loops: calls in their bodies, and arguments of all shapes. The C text of each unit stands over it; `[simd]` is a line
+-- `#pragma omp simd`.
 use Rattle.std.specs.Prelude.{◌≡◌, true, false, [], ◌∷◌, codes, Some, None, refl, pos}
 use Rattle.std.specs.Int.{int_wrap}
 use Rattle.vk_types.specs.Operators.{from_bits}
@@ -19,8 +20,15 @@ use Rattle.vk_rules_book.specs.Typings.{are_arguments, choice_typing}
 use Rattle.vk_code.specs.declared.code.Shape.TheVariants.{Vector, Uniform, By, Literal}
 use Rattle.vk_joins_tests.proofs.Forms.{counts, id, line, loop_calls, loop_captures, plain_calls}
 
-abbrev row20 : Subject
-row20 = record {
+-- int scale(int v, int k);
+-- int clamp(int v, int lim);
+-- int x[1000];
+-- int y[1000];
+-- int main(void) { for (int i = 0; i < 1000; i += 1) x[i] = i - 500; [simd] for (int i = 0; i < 1000; i += 1) { int v = x[i];
+--     if (v & 1) v = scale(v, i); y[i] = clamp(v, 1000); } long s = 0; for (int i = 0; i < 1000; i += 1) s += y[i]; print(s);
+--     return clamp(scale(1, 2), 3); }
+abbrev scaled : Subject
+scaled = record {
   items =
       function (record { line = 0; token = 0; name = (id 0); directives = []; result = (ctypes.Int types.I32); params = record { line = 0; token = 0; name = Some (id 1); ctype = (ctypes.Int types.I32); fixed = false } ∷ record { line = 0; token = 0; name = Some (id 2); ctype = (ctypes.Int types.I32); fixed = false } ∷ []; body = None }) ∷
       function (record { line = 0; token = 0; name = (id 3); directives = []; result = (ctypes.Int types.I32); params = record { line = 0; token = 0; name = Some (id 1); ctype = (ctypes.Int types.I32); fixed = false } ∷ record { line = 0; token = 0; name = Some (id 4); ctype = (ctypes.Int types.I32); fixed = false } ∷ []; body = None }) ∷
@@ -31,22 +39,35 @@ row20 = record {
   target = X86;
 }
 
-row20_main_plain_1 : plain_calls row20 (codes "main") ≡ record { callee = codes "clamp"; always = false; shapes = (Vector) ∷ (Vector) ∷ [] } ∷ record { callee = codes "scale"; always = false; shapes = (Vector) ∷ (Vector) ∷ [] } ∷ []
+scaled_main_plain : plain_calls scaled (codes "main") ≡ record { callee = codes "clamp"; always = false; shapes = (Vector) ∷ (Vector) ∷ [] } ∷ record { callee = codes "scale"; always = false; shapes = (Vector) ∷ (Vector) ∷ [] } ∷ []
 unfolding int_wrap from_bits first_declaration last_binding meaning_of with_params are_arguments choice_typing length_of constant_of simdlen_in
-row20_main_plain_1 = refl
+scaled_main_plain = refl
 
-row20_main_loops_2 : loop_calls row20 (codes "main") ≡ (record { callee = codes "scale"; always = false; shapes = (Vector) ∷ (By (pos 1)) ∷ [] } ∷ record { callee = codes "clamp"; always = true; shapes = (Vector) ∷ (Literal (pos 1000)) ∷ [] } ∷ []) ∷ []
+scaled_main_loops : loop_calls scaled (codes "main") ≡ (record { callee = codes "scale"; always = false; shapes = (Vector) ∷ (By (pos 1)) ∷ [] } ∷ record { callee = codes "clamp"; always = true; shapes = (Vector) ∷ (Literal (pos 1000)) ∷ [] } ∷ []) ∷ []
 unfolding int_wrap from_bits first_declaration last_binding meaning_of with_params are_arguments choice_typing length_of constant_of simdlen_in
-row20_main_loops_2 = refl
+scaled_main_loops = refl
 
-row20_main_captures_3 : loop_captures row20 (codes "main") ≡ ([]) ∷ []
+scaled_main_captures : loop_captures scaled (codes "main") ≡ ([]) ∷ []
 unfolding int_wrap from_bits first_declaration last_binding meaning_of with_params are_arguments choice_typing length_of constant_of simdlen_in
-row20_main_captures_3 = refl
+scaled_main_captures = refl
 
-row20_main_counts_4 : counts row20 (codes "main") ≡ 2 ∷ 56 ∷ 78 ∷ 2 ∷ 22 ∷ []
+scaled_main_counts : counts scaled (codes "main") ≡ 2 ∷ 56 ∷ 78 ∷ 2 ∷ 22 ∷ []
 unfolding int_wrap from_bits first_declaration last_binding meaning_of with_params are_arguments choice_typing length_of constant_of simdlen_in
-row20_main_counts_4 = refl
+scaled_main_counts = refl
 
+-- int f(int a, long b, short c, unsigned int d);
+-- int g(int *p, const long *q, int n);
+-- int h(const int *r, const long *w);
+-- int a[99];
+-- long b[99];
+-- const int t[4] = { 1, 2, 3, 4 };
+-- const int one = 1;
+-- int two;
+-- void run(int *s, const long *q, int n, short k) { [simd] for (int i = 0; i < n; i += 1) { int u = (f(i, i, i, i) +
+--     f((long)i, (int)((long)i), k, -1u)) + f(i + 1, i + 1, i + 1L, ((long)i) + 1); u += f(one, two, t[0], -2147483648L) +
+--     f(3000000000L, -3000000000L, 70000, -1); s[i] = (f(1 + n, n - i, i - n, 2 * n) + f(n ? 1 : 2, n && 1, !n, ~n)) +
+--     g(&s[i], q + i, n); a[i] = (((((h(t + i, q) + h(&t[i], b + ((long)i))) + h(t + 1, b + n)) + h(&t[i + 1], b - n)) +
+--     h(&(*t), &b[0])) + h(&one, i + b)) + f(+i, -i, i + k, k + i); } }
 abbrev casts : Subject
 casts = record {
   items =
@@ -63,18 +84,18 @@ casts = record {
   target = X86;
 }
 
-casts_run_plain_5 : plain_calls casts (codes "run") ≡ []
+casts_run_plain : plain_calls casts (codes "run") ≡ []
 unfolding int_wrap from_bits first_declaration last_binding meaning_of with_params are_arguments choice_typing length_of constant_of simdlen_in
-casts_run_plain_5 = refl
+casts_run_plain = refl
 
-casts_run_loops_6 : loop_calls casts (codes "run") ≡ (record { callee = codes "f"; always = true; shapes = (By (pos 1)) ∷ (By (pos 1)) ∷ (By (pos 1)) ∷ (By (pos 1)) ∷ [] } ∷ record { callee = codes "f"; always = true; shapes = (By (pos 1)) ∷ (Vector) ∷ (Uniform) ∷ (Uniform) ∷ [] } ∷ record { callee = codes "f"; always = true; shapes = (By (pos 1)) ∷ (Vector) ∷ (Vector) ∷ (By (pos 1)) ∷ [] } ∷ record { callee = codes "f"; always = true; shapes = (Uniform) ∷ (Vector) ∷ (Vector) ∷ (Uniform) ∷ [] } ∷ record { callee = codes "f"; always = true; shapes = (Vector) ∷ (Vector) ∷ (Uniform) ∷ (Uniform) ∷ [] } ∷ record { callee = codes "f"; always = true; shapes = (Uniform) ∷ (Vector) ∷ (By (pos 1)) ∷ (Uniform) ∷ [] } ∷ record { callee = codes "f"; always = true; shapes = (Uniform) ∷ (Uniform) ∷ (Uniform) ∷ (Uniform) ∷ [] } ∷ record { callee = codes "g"; always = true; shapes = (By (pos 1)) ∷ (By (pos 1)) ∷ (Uniform) ∷ [] } ∷ record { callee = codes "h"; always = true; shapes = (By (pos 1)) ∷ (Uniform) ∷ [] } ∷ record { callee = codes "h"; always = true; shapes = (By (pos 1)) ∷ (Vector) ∷ [] } ∷ record { callee = codes "h"; always = true; shapes = (Uniform) ∷ (Uniform) ∷ [] } ∷ record { callee = codes "h"; always = true; shapes = (Vector) ∷ (Uniform) ∷ [] } ∷ record { callee = codes "h"; always = true; shapes = (Vector) ∷ (Uniform) ∷ [] } ∷ record { callee = codes "h"; always = true; shapes = (Uniform) ∷ (By (pos 1)) ∷ [] } ∷ record { callee = codes "f"; always = true; shapes = (Vector) ∷ (Vector) ∷ (By (pos 1)) ∷ (By (pos 1)) ∷ [] } ∷ []) ∷ []
+casts_run_loops : loop_calls casts (codes "run") ≡ (record { callee = codes "f"; always = true; shapes = (By (pos 1)) ∷ (By (pos 1)) ∷ (By (pos 1)) ∷ (By (pos 1)) ∷ [] } ∷ record { callee = codes "f"; always = true; shapes = (By (pos 1)) ∷ (Vector) ∷ (Uniform) ∷ (Uniform) ∷ [] } ∷ record { callee = codes "f"; always = true; shapes = (By (pos 1)) ∷ (Vector) ∷ (Vector) ∷ (By (pos 1)) ∷ [] } ∷ record { callee = codes "f"; always = true; shapes = (Uniform) ∷ (Vector) ∷ (Vector) ∷ (Uniform) ∷ [] } ∷ record { callee = codes "f"; always = true; shapes = (Vector) ∷ (Vector) ∷ (Uniform) ∷ (Uniform) ∷ [] } ∷ record { callee = codes "f"; always = true; shapes = (Uniform) ∷ (Vector) ∷ (By (pos 1)) ∷ (Uniform) ∷ [] } ∷ record { callee = codes "f"; always = true; shapes = (Uniform) ∷ (Uniform) ∷ (Uniform) ∷ (Uniform) ∷ [] } ∷ record { callee = codes "g"; always = true; shapes = (By (pos 1)) ∷ (By (pos 1)) ∷ (Uniform) ∷ [] } ∷ record { callee = codes "h"; always = true; shapes = (By (pos 1)) ∷ (Uniform) ∷ [] } ∷ record { callee = codes "h"; always = true; shapes = (By (pos 1)) ∷ (Vector) ∷ [] } ∷ record { callee = codes "h"; always = true; shapes = (Uniform) ∷ (Uniform) ∷ [] } ∷ record { callee = codes "h"; always = true; shapes = (Vector) ∷ (Uniform) ∷ [] } ∷ record { callee = codes "h"; always = true; shapes = (Vector) ∷ (Uniform) ∷ [] } ∷ record { callee = codes "h"; always = true; shapes = (Uniform) ∷ (By (pos 1)) ∷ [] } ∷ record { callee = codes "f"; always = true; shapes = (Vector) ∷ (Vector) ∷ (By (pos 1)) ∷ (By (pos 1)) ∷ [] } ∷ []) ∷ []
 unfolding int_wrap from_bits first_declaration last_binding meaning_of with_params are_arguments choice_typing length_of constant_of simdlen_in
-casts_run_loops_6 = refl
+casts_run_loops = refl
 
-casts_run_captures_7 : loop_captures casts (codes "run") ≡ (3 ∷ 0 ∷ 2 ∷ 1 ∷ []) ∷ []
+casts_run_captures : loop_captures casts (codes "run") ≡ (3 ∷ 0 ∷ 2 ∷ 1 ∷ []) ∷ []
 unfolding int_wrap from_bits first_declaration last_binding meaning_of with_params are_arguments choice_typing length_of constant_of simdlen_in
-casts_run_captures_7 = refl
+casts_run_captures = refl
 
-casts_run_counts_8 : counts casts (codes "run") ≡ 0 ∷ 16 ∷ 173 ∷ 7 ∷ 157 ∷ []
+casts_run_counts : counts casts (codes "run") ≡ 0 ∷ 16 ∷ 173 ∷ 7 ∷ 157 ∷ []
 unfolding int_wrap from_bits first_declaration last_binding meaning_of with_params are_arguments choice_typing length_of constant_of simdlen_in
-casts_run_counts_8 = refl
+casts_run_counts = refl
