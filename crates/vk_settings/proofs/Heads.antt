@@ -183,7 +183,7 @@ pub record HasHead (text : List ℕ) (v : Subject) (f : Definition) : Type 0 whe
   pub is : function_in text v ≡ Some first
   pub head : head_of f.function ≡ head_of first
 
-first_append : (look : ItemTree → Option FunctionTree) (xs ys : List ItemTree) → first_of look (xs ++ ys) ≡ option_or (first_of look xs) (first_of look ys)
+pub first_append : (look : ItemTree → Option FunctionTree) (xs ys : List ItemTree) → first_of look (xs ++ ys) ≡ option_or (first_of look xs) (first_of look ys)
 first_append look [] ys = refl
 first_append look (x ∷ xs) ys = ap (option_or (look x)) (first_append look xs ys) ∙ assoc (look x) (first_of look xs) (first_of look ys)
   where

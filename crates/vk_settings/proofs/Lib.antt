@@ -1,4 +1,5 @@
 mod Heads
+mod Declared
 mod Told
 mod Calls
 mod Numbers
