@@ -35,8 +35,9 @@ use Rattle.vk_compose.proofs.Plans.{among}
 use Rattle.vk_promises.specs.Places.{IsLinkedCall, TellsOf, setting_of}
 use Rattle.vk_promises.specs.Settings.{CallsAreRight, IsRightCall, Setting, types_called}
 use Rattle.vk_promises.proofs.Targets.{call_is_right}
-use Rattle.vk_settings.specs.Programs.{IsProgram, IsRunning, IsTold}
-use Rattle.vk_settings.proofs.Heads.{defined_in_unit}
+use Rattle.vk_settings.specs.Programs.{IsCallOf, IsProgram, IsRunning, IsTold}
+use Rattle.vk_settings.proofs.Declared.{declared_so}
+use Rattle.vk_settings.proofs.Heads.{IsDefinedIn, defined_in_unit}
 use Rattle.vk_settings.proofs.Told.{callee_told, declared_here}
 
 -- ---- the row of a slot
@@ -151,10 +152,26 @@ module _ (ps : List Pair) (image : Tables) (program : IsProgram ps image) (p : P
     row_is : row.row ≡ tells.row
     row_is = same_some row.row tells.row (sym row.at ∙ tells.at)
 
+    -- the name is not that of the built-in function
+    other : is_print d.unit.texts c.callee ≡ false
+    other = not_print (is_print d.unit.texts c.callee) (kept (λ (z : CallText). not (is_print d.unit.texts z.callee)) (body_calls d) c is_own).passes
+
+    defined : IsDefinedIn text p.unit d
+    defined = defined_in_unit text p.unit d running.defined
+
+    call_of : IsCallOf d c
+    call_of = running.functions c is_own
+
+    passed : option_map (λ (z : Declared). z.params) (declared_in_unit p.unit name) ≡ Some (types_called c)
+    passed =
+        subst (λ (u : Subject). option_map (λ (z : Declared). z.params) (declared_in_unit p.unit (text_of u.texts c.callee)) ≡ Some (types_called c)) (sym defined.unit_is)
+        (declared_so p.unit (program.accepted p running.among) d.items defined.behind defined.prefix c.callee call_of.declaration call_of.first
+        (subst (λ (u : Subject). is_print u.texts c.callee ≡ false) defined.unit_is other) ∙ ap Some (sym call_of.types))
+
     types : types_called c ≡ param_types f
     types =
         same_some (types_called c) row.row.head.params
-        (sym (subst (λ (u : Subject). option_map (λ (z : Declared). z.params) (declared_in_unit u name) ≡ Some (types_called c)) (defined_in_unit text p.unit d running.defined).unit_is (running.declared c is_own)) ∙ row_declared) ∙
+        (sym passed ∙ row_declared) ∙
         (ap (λ (r : FunctionLists). r.head.params) row_is ∙ ap (λ (h : HeadTypes). h.params) tells.head)
 
     agrees : Agrees (units_of ps) image name f
@@ -192,7 +209,7 @@ module _ (ps : List Pair) (image : Tables) (program : IsProgram ps image) (p : P
       limit = limit;
       slots = linked.slots k slot.of made slot.at made_at;
       callee = subst (λ (o : ObjectLists). callee_name (symbols_of o) slot.of ≡ name) (sym running.object) callee_is;
-      own = not_print (is_print d.unit.texts c.callee) (kept (λ (z : CallText). not (is_print d.unit.texts z.callee)) (body_calls d) c is_own).passes;
+      own = other;
       tells = subst (λ (o : ObjectLists). TellsOf o slot.of name f) (sym running.object) tells;
       types = types;
       agrees = agrees;

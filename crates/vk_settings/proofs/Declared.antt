@@ -1,12 +1,11 @@
 -- The first declaration of a function by its name is the one that is found by its text.
-use Rattle.std.proofs.Common.{◌≡◌, ◌⊎◌, inl, inr, ℕ, zero, suc, ◌==◌, Bool, true, false, cond, List, [], ◌∷◌, ◌++◌, Contains, Option, Some, None, bytes_eq, codes, refl, sym, ap, subst, ◌∙◌, arith}
+use Rattle.std.proofs.Common.{◌≡◌, ℕ, Bool, true, false, cond, List, [], ◌∷◌, ◌++◌, Contains, Option, Some, None, bytes_eq, refl, sym, ap, subst, ◌∙◌}
 use Rattle.std.specs.Option.{option_map, option_or}
 use Rattle.std.proofs.lemmas.Bool.Decides.{Decides-eqb}
 use Rattle.std.proofs.lemmas.List.Elements.{Contains-append_left}
 use Rattle.std.proofs.lemmas.Slice.Eq.{bytes_eq-Decides}
-use Rattle.vk_kinds.specs.declared.heads.CType.{CType}
 use Rattle.vk_ast.specs.declared.names.NameId.{NameId}
-use Rattle.vk_ast.specs.Units.{FunctionTree, ItemTree, ObjectTree, function, object, lost_line}
+use Rattle.vk_ast.specs.Units.{FunctionTree, ItemTree, function, object, lost_line}
 use Rattle.vk_rules_book.specs.Rules.{Subject}
 use Rattle.vk_rules_book.specs.Scopes.{declares, first_declaration, is_print, same_name, text_of, types_of}
 use Rattle.vk_agree.specs.Units.{IsAccepted, first_of, function_in, function_named}

@@ -68,6 +68,8 @@ pub record IsDefinedIn (text : List ℕ) (v : Subject) (f : Definition) : Type 0
   pub before : List ItemTree
   pub behind : List ItemTree
   pub split : v.items ≡ before ++ function f.function ∷ behind
+  -- its items are the first ones of the unit
+  pub prefix : v.items ≡ f.items ++ behind
   pub named : text_of v.texts f.function.name ≡ text
 
 module _ (text : List ℕ) (v : Subject) (f : Definition) where
@@ -75,7 +77,7 @@ module _ (text : List ℕ) (v : Subject) (f : Definition) where
       with_body v (before ++ function g ∷ []) g b ≡ Some f → IsDefinedIn text v f
   found_body before g behind None split named e = cc
   found_body before g behind (Some body) split named e =
-      subst (IsDefinedIn text v) (same_some _ f e) (record { unit_is = refl; before = before; behind = behind; split = split; named = named })
+      subst (IsDefinedIn text v) (same_some _ f e) (record { unit_is = refl; before = before; behind = behind; split = split; prefix = split ∙ sym (append_assoc before (function g ∷ []) behind); named = named })
     where
       same_some : (x y : Definition) → Some x ≡ Some y → x ≡ y
       same_some x y k = cc
