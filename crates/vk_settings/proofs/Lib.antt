@@ -1,5 +1,6 @@
 mod Heads
 mod Declared
+mod Files
 mod Told
 mod Calls
 mod Numbers
