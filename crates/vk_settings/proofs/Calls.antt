@@ -35,9 +35,10 @@ use Rattle.vk_compose.proofs.Plans.{among}
 use Rattle.vk_promises.specs.Places.{IsLinkedCall, TellsOf, setting_of}
 use Rattle.vk_promises.specs.Settings.{CallsAreRight, IsRightCall, Setting, types_called}
 use Rattle.vk_promises.proofs.Targets.{call_is_right}
-use Rattle.vk_settings.specs.Programs.{IsCallOf, IsProgram, IsRunning, IsTold}
+use Rattle.vk_settings.specs.Programs.{IsProgram, IsRunning, IsTold}
 use Rattle.vk_settings.proofs.Declared.{declared_so}
 use Rattle.vk_settings.proofs.Heads.{IsDefinedIn, defined_in_unit}
+use Rattle.vk_settings.proofs.Meant.{IsCallOf, call_of}
 use Rattle.vk_settings.proofs.Told.{callee_told, declared_here}
 
 -- ---- the row of a slot
@@ -159,14 +160,14 @@ module _ (ps : List Pair) (image : Tables) (program : IsProgram ps image) (p : P
     defined : IsDefinedIn text p.unit d
     defined = defined_in_unit text p.unit d running.defined
 
-    call_of : IsCallOf d c
-    call_of = running.functions c is_own
+    call_is : IsCallOf d c
+    call_is = call_of d c (kept (λ (z : CallText). not (is_print d.unit.texts z.callee)) (body_calls d) c is_own).among other (running.functions c is_own)
 
     passed : option_map (λ (z : Declared). z.params) (declared_in_unit p.unit name) ≡ Some (types_called c)
     passed =
         subst (λ (u : Subject). option_map (λ (z : Declared). z.params) (declared_in_unit p.unit (text_of u.texts c.callee)) ≡ Some (types_called c)) (sym defined.unit_is)
-        (declared_so p.unit (program.accepted p running.among) d.items defined.behind defined.prefix c.callee call_of.declaration call_of.first
-        (subst (λ (u : Subject). is_print u.texts c.callee ≡ false) defined.unit_is other) ∙ ap Some (sym call_of.types))
+        (declared_so p.unit (program.accepted p running.among) d.items defined.behind defined.prefix c.callee call_is.declaration call_is.first
+        (subst (λ (u : Subject). is_print u.texts c.callee ≡ false) defined.unit_is other) ∙ ap Some (sym call_is.types))
 
     types : types_called c ≡ param_types f
     types =

@@ -1,10 +1,10 @@
 -- What is declared at file scope is the same at all calls of a body.
-use Rattle.std.proofs.Common.{◌≡◌, Bool, true, false, not, ◌&&◌, List, [], ◌∷◌, ◌++◌, Option, Some, None, refl, sym, ap, ◌∙◌}
+use Rattle.std.proofs.Common.{◌≡◌, Bool, true, false, not, ◌&&◌, List, [], ◌∷◌, ◌++◌, Option, Some, None, refl, ◌∙◌}
 use Rattle.vk_kinds.specs.declared.heads.CType.TheVariants.{Int}
 use Rattle.vk_ast.specs.declared.names.NameId.{NameId}
 use Rattle.vk_ast.specs.Tree.{Tree, Trees, int, name, index, deref, addr, unary, binary, choice, cast, call, no_trees, more_trees}
 use Rattle.vk_ast.specs.Statements.{StmtTree, StmtTrees, empty, block, local, assign, value, if_only, if_else, while_loop, do_loop, for_loop, break_loop, continue_loop, return_value, simd, lost, no_stmts, more_stmts}
-use Rattle.vk_rules_book.specs.Scopes.{Meaning, Scope, inside, with_binding}
+use Rattle.vk_rules_book.specs.Scopes.{Meaning, Scope, with_binding}
 use Rattle.vk_rules_book.specs.Visits.{after, after_all, block_scope}
 use Rattle.vk_meaning.specs.Points.{Point, past, branch_point, head_point, block_point, behind, loops_in}
 use Rattle.vk_sites.specs.Calls.{CallText, calls_in, calls_in_all, calls_in_optional, calls_of, calls_of_all, calls_of_simd, goes_on, skips}
@@ -42,7 +42,7 @@ mutual
 -- ---- calls
 
 module _ (file : NameId → Option Meaning) where
-  abbrev HasFile : CallText → Type 0
+  abbrev pub HasFile : CallText → Type 0
   HasFile c = c.scope.file ≡ file
 
   both : (xs ys : List CallText) → Every HasFile xs → Every HasFile ys → Every HasFile (xs ++ ys)
@@ -77,7 +77,7 @@ module _ (file : NameId → Option Meaning) where
   behind_file p s f = after_file p.shares p.scope s ∙ f
 
   mutual
-    in_stmt : (p : Point) → p.scope.file ≡ file → (b : Bool) (s : StmtTree) → Every HasFile (calls_of p b s)
+    pub in_stmt : (p : Point) → p.scope.file ≡ file → (b : Bool) (s : StmtTree) → Every HasFile (calls_of p b s)
     in_stmt p f b (empty l k) = tt
     in_stmt p f b (block l k ss) = in_stmts (block_point p) (block_file p.shares p.scope ∙ f) b ss
     in_stmt p f b (local l k t fixed id init) = in_optional (with_binding p.scope id (Int t) fixed) f b init

@@ -1,6 +1,7 @@
 mod Heads
 mod Declared
 mod Files
+mod Meant
 mod Told
 mod Calls
 mod Numbers

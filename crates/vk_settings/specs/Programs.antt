@@ -2,9 +2,9 @@
 use Rattle.std.specs.Prelude.{◌≡◌, ◌≤◌, ◌^◌, Bool, length, ℕ, true, false, List, [], Some, Contains}
 use Rattle.vk_types.specs.declared.types.Ty.{Ty}
 use Rattle.vk_ast.specs.declared.names.NameId.{NameId}
-use Rattle.vk_ast.specs.Units.{FunctionTree, function}
-use Rattle.vk_rules_book.specs.Scopes.{an_object, first_declaration, types_of}
+use Rattle.vk_rules_book.specs.Scopes.{an_object, meaning_of}
 use Rattle.vk_meaning.specs.Programs.{Definition, arrays_of, definition_of, first_point}
+use Rattle.vk_meaning_laws.specs.Tame.{is_function}
 use Rattle.vk_code.specs.Listing.{CallSite, Listing}
 use Rattle.vk_object.specs.Images.{code_of, is_image}
 use Rattle.vk_object.specs.Machine.{entry_at, site_at}
@@ -19,7 +19,7 @@ use Rattle.vk_joins.specs.Codes.{IsCodeOf, Manner, own_calls, symbols_of}
 use Rattle.vk_joins.specs.Joins.{IsPlannedEntry, Joins, Planned, array_number}
 use Rattle.vk_joins.specs.Links.{DoUnitsLink, body_calls}
 use Rattle.vk_promises.specs.Places.{TellsOf, setting_of}
-use Rattle.vk_promises.specs.Settings.{IsArrayOf, Setting, types_called}
+use Rattle.vk_promises.specs.Settings.{IsArrayOf, Setting}
 
 -- accepted units that link, objects that tell the same names, and a valid image that joins the objects
 pub record IsProgram (ps : List Pair) (image : Tables) : Type 0 where
@@ -28,12 +28,6 @@ pub record IsProgram (ps : List Pair) (image : Tables) : Type 0 where
   pub links : DoUnitsLink (units_of ps)
   pub valid : is_image image ≡ true
   pub joins : Joins image (objects_of ps)
-
--- what a called name means: a function that is declared before, and takes what the call passes (C17 6.2.1, 6.5.2.2)
-pub record IsCallOf (d : Definition) (c : CallText) : Type 0 where
-  pub declaration : FunctionTree
-  pub first : first_declaration d.items c.callee ≡ Some (function declaration)
-  pub types : types_called c ≡ types_of declaration.params
 
 -- The entry e of the image runs a code of the function d, which the unit of the pair p defines under this name, and whose callees agree
 -- with the image; it is no body of a simd loop.
@@ -45,7 +39,8 @@ pub record IsRunning (ps : List Pair) (image : Tables) (p : Pair) (text : List �
   pub planned : IsPlannedEntry (objects_of ps) image e x plan
   pub object : plan.made.object ≡ p.object
   pub code : IsCodeOf (symbols_of p.object) d.unit manner (first_point d) d.body plan.made.code
-  pub functions : (c : CallText) → Contains (own_calls d.unit (body_calls d)) c → IsCallOf d c
+  -- a called name means a function where it is called (C17 6.5.2.2)
+  pub functions : (c : CallText) → Contains (own_calls d.unit (body_calls d)) c → is_function (meaning_of c.scope c.callee) ≡ true
   pub no_body : is_body (Some x) ≡ false
 
 -- the definition of the function that a slot of the pair's object calls, and what the slot's row tells of it
