@@ -2,6 +2,7 @@ mod Heads
 mod Declared
 mod Files
 mod Meant
+mod Sound
 mod Told
 mod Calls
 mod Numbers
