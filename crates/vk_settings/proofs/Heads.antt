@@ -70,21 +70,23 @@ pub record IsDefinedIn (text : List ℕ) (v : Subject) (f : Definition) : Type 0
   pub split : v.items ≡ before ++ function f.function ∷ behind
   -- its items are the first ones of the unit
   pub prefix : v.items ≡ f.items ++ behind
+  pub items_are : f.items ≡ before ++ function f.function ∷ []
+  pub body_is : f.function.body ≡ Some f.body
   pub named : text_of v.texts f.function.name ≡ text
 
 module _ (text : List ℕ) (v : Subject) (f : Definition) where
-  found_body : (before : List ItemTree) (g : FunctionTree) (behind : List ItemTree) (b : Option StmtTree) → v.items ≡ before ++ function g ∷ behind → text_of v.texts g.name ≡ text →
+  found_body : (before : List ItemTree) (g : FunctionTree) (behind : List ItemTree) (b : Option StmtTree) → g.body ≡ b → v.items ≡ before ++ function g ∷ behind → text_of v.texts g.name ≡ text →
       with_body v (before ++ function g ∷ []) g b ≡ Some f → IsDefinedIn text v f
-  found_body before g behind None split named e = cc
-  found_body before g behind (Some body) split named e =
-      subst (IsDefinedIn text v) (same_some _ f e) (record { unit_is = refl; before = before; behind = behind; split = split; prefix = split ∙ sym (append_assoc before (function g ∷ []) behind); named = named })
+  found_body before g behind None is split named e = cc
+  found_body before g behind (Some body) is split named e =
+      subst (IsDefinedIn text v) (same_some _ f e) (record { unit_is = refl; before = before; behind = behind; split = split; prefix = split ∙ sym (append_assoc before (function g ∷ []) behind); items_are = refl; body_is = is; named = named })
     where
       same_some : (x y : Definition) → Some x ≡ Some y → x ≡ y
       same_some x y k = cc
 
   found_if : (before : List ItemTree) (g : FunctionTree) (behind : List ItemTree) (b : Bool) → bytes_eq (text_of v.texts g.name) text ≡ b → v.items ≡ before ++ function g ∷ behind →
       cond b (with_body v (before ++ function g ∷ []) g g.body) None ≡ Some f → IsDefinedIn text v f
-  found_if before g behind true k split e = found_body before g behind g.body split ((bytes_eq-Decides (text_of v.texts g.name) text).0 k) e
+  found_if before g behind true k split e = found_body before g behind g.body refl split ((bytes_eq-Decides (text_of v.texts g.name) text).0 k) e
   found_if before g behind false k split e = cc
 
   found_by : (before : List ItemTree) (i : ItemTree) (behind : List ItemTree) → v.items ≡ before ++ i ∷ behind → defined_by text v (before ++ i ∷ []) i ≡ Some f → IsDefinedIn text v f

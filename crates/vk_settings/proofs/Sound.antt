@@ -1,6 +1,7 @@
 -- In an accepted unit each called name means a function where it is called.
-use Rattle.std.proofs.Common.{◌≡◌, ℕ, ◌+◌, Bool, true, false, not, ◌&&◌, cond, List, [], ◌∷◌, ◌++◌, length, Option, Some, None, refl, sym, ap, subst, ◌∙◌}
+use Rattle.std.proofs.Common.{◌≡◌, ℕ, ◌+◌, Bool, true, false, not, ◌&&◌, cond, List, [], ◌∷◌, ◌++◌, length, Contains, Option, Some, None, refl, sym, ap, subst, ◌∙◌}
 use Rattle.std.specs.List.{AllByRecursion}
+use Rattle.std.proofs.lemmas.List.{append-nil, append_assoc}
 use Rattle.vk_kinds.specs.declared.heads.CType.{CType}
 use Rattle.vk_kinds.specs.declared.heads.CType.TheVariants.{Int}
 use Rattle.vk_ast.specs.declared.names.NameId.{NameId}
@@ -11,12 +12,18 @@ use Rattle.vk_rules_book.specs.declared.contexts.Role.TheVariants as role
 use Rattle.vk_rules_book.specs.declared.contexts.Role.{Role}
 use Rattle.vk_rules_book.specs.declared.typings.Typing.{Typing}
 use Rattle.vk_rules_book.specs.declared.typings.Typing.TheVariants.{Untyped}
-use Rattle.vk_rules_book.specs.Scopes.{Meaning, Scope, a_function, a_variable, an_object, inside, meaning_of, with_binding}
+use Rattle.vk_rules_book.specs.Scopes.{Meaning, Scope, file_scope, with_params, a_function, a_variable, an_object, inside, meaning_of, with_binding}
 use Rattle.vk_rules_book.specs.Typings.{are_arguments, call_typing, called_typing, is_callable, is_typed, left_role, right_role, typing_of, typings_of, wanted_types}
-use Rattle.vk_rules_book.specs.Visits.{Visit, after, all_visits, argument_visits, block_scope, called, expression, in_loop, is_zero, optional_visits, parts_of, statement, stmt_visits, visits_of, with_role}
-use Rattle.vk_rules_laws.proofs.Each.{back, front}
+use Rattle.vk_rules_book.specs.Visits.{Visit, after, all_visits, along, argument_visits, around_body, block_scope, body_visits, called, directives_part, expression, function_part, in_loop, item_visits, parameter_visits, unit_visits, is_zero, optional_visits, parts_of, statement, stmt_visits, visits_of, with_role}
+use Rattle.vk_rules_laws.proofs.Each.{at_all, back, front}
 use Rattle.vk_meaning.specs.Points.{Point, past, branch_point, head_point, block_point, behind, loops_in}
 use Rattle.vk_meaning_laws.specs.Tame.{is_function}
+use Rattle.vk_meaning.specs.Programs.{Definition, first_point}
+use Rattle.vk_ast.specs.Units.{ItemTree, function}
+use Rattle.vk_rules_book.specs.Rules.{Subject}
+use Rattle.vk_agree.specs.Units.{definition_in}
+use Rattle.vk_joins.specs.Links.{body_calls}
+use Rattle.vk_settings.proofs.Heads.{IsDefinedIn, defined_in_unit}
 use Rattle.vk_sites.specs.Calls.{CallText, calls_in, calls_in_all, calls_in_optional, calls_of, calls_of_all, calls_of_simd, goes_on, skips}
 use Rattle.vk_compose.proofs.Chains.{Every}
 
@@ -178,3 +185,42 @@ mutual
       (both (calls_in_optional n.scope false test) (calls_of n false third) (in_optional a n.scope false test (left y (z ++ w) (right x (y ++ (z ++ w)) h.1)))
       (in_stmt a n false third (left z w (right y (z ++ w) (right x (y ++ (z ++ w)) h.1)))))
   in_simd a p _ h = tt
+
+-- ---- the body of a definition
+
+-- each expression that the rules visit in the unit has a type
+abbrev pub AreTyped : Subject → Type 0
+AreTyped v = (a : Around) (scope : Scope) (r : Role) (e : Tree) → Contains (unit_visits v.texts v.items) (expression a scope r e) → is_typed (typing_of scope e) ≡ true
+
+typed_visit : (v : Subject) → AreTyped v → (x : Visit) → Contains (unit_visits v.texts v.items) x → IsTypedVisit x
+typed_visit v typed (expression a scope r e) h = typed a scope r e h
+typed_visit v typed _ h = tt
+
+at_item : (part : List ItemTree → ItemTree → List Visit) (outer xs : List ItemTree) (x : ItemTree) (ys : List ItemTree) → All (along part outer (xs ++ x ∷ ys)) → All (part (outer ++ xs) x)
+at_item part outer [] x ys q = subst (λ (zs : List ItemTree). All (part zs x)) (sym (append-nil outer)) (left (part outer x) (along part (outer ++ x ∷ []) ys) q)
+at_item part outer (y ∷ xs) x ys q =
+    subst (λ (zs : List ItemTree). All (part zs x)) (append_assoc outer (y ∷ []) xs)
+    (at_item part (outer ++ y ∷ []) xs x ys (right (part outer y) (along part (outer ++ y ∷ []) (xs ++ x ∷ ys)) q))
+
+-- THE CALLS: each called name in a body means a function where it is called
+pub calls_mean_functions : (v : Subject) → AreTyped v → (text : List ℕ) (d : Definition) → definition_in text v ≡ Some d → Every IsFunctionCall (body_calls d)
+calls_mean_functions v typed text d e = in_stmt (around_body (f.before ++ function d.function ∷ []) d.function) (first_point d) true d.body body
+  where
+    f : IsDefinedIn text v d
+    f = defined_in_unit text v d e
+
+    visits : All (item_visits v.texts f.before (function d.function))
+    visits = at_item (item_visits v.texts) [] f.before (function d.function) f.behind
+        (subst (λ (xs : List ItemTree). All (along (item_visits v.texts) [] xs)) f.split (at_all IsTypedVisit (unit_visits v.texts v.items) (typed_visit v typed)))
+
+    of_function : All (function_part v.texts f.before (function d.function))
+    of_function = right (directives_part f.before (function d.function)) (function_part v.texts f.before (function d.function)) visits.1
+
+    of_body : All (body_visits (around_body (f.before ++ function d.function ∷ []) d.function) (with_params (file_scope v.texts (f.before ++ function d.function ∷ [])) d.function.params) d.function.body)
+    of_body = right (parameter_visits (file_scope v.texts (f.before ++ function d.function ∷ [])) 0 d.function.params) _ of_function
+
+    body : All (stmt_visits (around_body (f.before ++ function d.function ∷ []) d.function) (first_point d).scope true d.body)
+    body =
+        subst (λ (u : Subject). All (stmt_visits (around_body (f.before ++ function d.function ∷ []) d.function) (with_params (file_scope u.texts d.items) d.function.params) true d.body)) (sym f.unit_is)
+        (subst (λ (xs : List ItemTree). All (stmt_visits (around_body (f.before ++ function d.function ∷ []) d.function) (with_params (file_scope v.texts xs) d.function.params) true d.body)) (sym f.items_are)
+        (subst (λ (b : Option StmtTree). All (body_visits (around_body (f.before ++ function d.function ∷ []) d.function) (with_params (file_scope v.texts (f.before ++ function d.function ∷ [])) d.function.params) b)) f.body_is of_body))
