@@ -3,6 +3,7 @@ use Rattle.std.proofs.Common.{◌≡◌, ◌≤◌, ◌^◌, length, ◌<◌, �
 use Rattle.std.specs.Option.{option_and_then, option_map}
 use Rattle.std.proofs.lemmas.Simd.{map-map}
 use Rattle.vk_kinds.specs.Sizes.{SignatureTree}
+use Rattle.vk_rules_book.specs.Rules.{Subject}
 use Rattle.vk_rules_book.specs.Scopes.{text_of}
 use Rattle.vk_meaning.specs.World.{printed}
 use Rattle.vk_meaning.specs.Meaning.{means}
@@ -17,7 +18,7 @@ use Rattle.vk_sites.specs.Bounds.{own_loops}
 use Rattle.vk_sites.specs.Loops.{LoopText}
 use Rattle.vk_sites.specs.Objects.{objects_of}
 use Rattle.vk_agree.specs.Agree.{IsTurnLimit, bodies_of, calls_for, is_body}
-use Rattle.vk_agree.specs.Units.{kinds_of, param_types}
+use Rattle.vk_agree.specs.Units.{IsAccepted, kinds_of, param_types}
 use Rattle.vk_joins.specs.Carries.{HasArraysOf, Pair, units_of}
 use Rattle.vk_joins.specs.Codes.{Manner, symbols_of}
 use Rattle.vk_joins.specs.Joins.{Planned, array_number, array_of_row}
@@ -30,6 +31,7 @@ use Rattle.vk_promises.specs.Settings.{HasObjects, IsMachine, RunsCode, Setting}
 use Rattle.vk_promises.proofs.Ends.{StandsInAnyRun, Unfolds, agrees_from, agrees_on_lanes_from, calls_uniform}
 use Rattle.vk_settings.specs.Programs.{IsProgram, IsRunning, ObjectsAreArrays}
 use Rattle.vk_settings.proofs.Numbers.{arrays_short, numbers_are}
+use Rattle.vk_settings.proofs.Sound.{AreTyped}
 use Rattle.vk_settings.proofs.Calls.{calls_are_right, linked}
 
 -- no body is called for a printed number
@@ -42,7 +44,7 @@ no_loop [] zero l e h = cc
 no_loop [] (suc k) l e h = cc
 no_loop (x ∷ xs) k l e h = cc
 
-module _ (ps : List Pair) (image : Tables) (program : IsProgram ps image) (p : Pair) (text : List ℕ) (d : Definition) (manner : Manner) (e : ℕ) (x : EntryLists) (plan : Planned)
+module _ (ps : List Pair) (image : Tables) (program : IsProgram ps image) (typed : (v : Subject) → IsAccepted v → AreTyped v) (p : Pair) (text : List ℕ) (d : Definition) (manner : Manner) (e : ℕ) (x : EntryLists) (plan : Planned)
     (running : IsRunning ps image p text d manner e x plan) (turns : ℕ) (limit : IsTurnLimit turns) (code : Listing) (code_is : code_of image x ≡ Some code) where
   abbrev site : Site
   site = site_at image turns (entry_at image turns 63) x code
@@ -60,7 +62,7 @@ module _ (ps : List Pair) (image : Tables) (program : IsProgram ps image) (p : P
 
   runs_code : RunsCode (symbols_of p.object) plan.made.code own_setting e
   runs_code = record {
-    code = linked ps image program p text d manner e x plan running turns limit code code_is;
+    code = linked ps image program typed p text d manner e x plan running turns limit code code_is;
     no_body = ap is_body running.planned.entry ∙ running.no_body;
   }
 
@@ -89,7 +91,7 @@ module _ (ps : List Pair) (image : Tables) (program : IsProgram ps image) (p : P
       result = refl;
       uniform = calls_uniform (units_of ps) image turns d site (array_number image) any_run;
       runs = runs_code;
-      calls = calls_are_right ps image program p text d manner e x plan running turns limit code code_is;
+      calls = calls_are_right ps image program typed p text d manner e x plan running turns limit code code_is;
       loops = λ k l h. absurd (no_loop (own_loops d) k l no_loops h);
       prints = λ other z. none_printed image (slice_get image.entries other) z;
     }

@@ -22,7 +22,7 @@ use Rattle.vk_sites.specs.Calls.{CallText}
 use Rattle.vk_sites.specs.Loops.{LoopText}
 use Rattle.vk_sites.specs.Bounds.{own_loops}
 use Rattle.vk_agree.specs.Agree.{Agrees, AgreesWhereDefined, IsEntry, IsTurnLimit}
-use Rattle.vk_agree.specs.Units.{param_types}
+use Rattle.vk_agree.specs.Units.{IsAccepted, param_types}
 use Rattle.vk_joins.specs.Carries.{Pair, objects_of, units_of}
 use Rattle.vk_joins.specs.Codes.{Call, Manner, Symbols, call_made, call_told, callee_name, lanes, own_calls, plain, symbols_of}
 use Rattle.vk_joins.specs.Joins.{IsLinkedCode, IsTarget, Planned, array_number, array_of_object, goal_of}
@@ -38,7 +38,8 @@ use Rattle.vk_promises.proofs.Targets.{call_is_right}
 use Rattle.vk_settings.specs.Programs.{IsProgram, IsRunning, IsTold}
 use Rattle.vk_settings.proofs.Declared.{declared_so}
 use Rattle.vk_settings.proofs.Heads.{IsDefinedIn, defined_in_unit}
-use Rattle.vk_settings.proofs.Meant.{IsCallOf, call_of}
+use Rattle.vk_settings.proofs.Meant.{IsCallOf, call_of, every_in}
+use Rattle.vk_settings.proofs.Sound.{AreTyped, IsFunctionCall, calls_mean_functions}
 use Rattle.vk_settings.proofs.Told.{callee_told, declared_here}
 
 -- ---- the row of a slot
@@ -93,7 +94,7 @@ pub one_target : (ps : List Pair) (image : Tables) → IsProgram ps image → (q
 one_target ps image program q r a b =
     sym (program.joins.target q.object (contains_map (λ (z : Pair). z.object) ps q a)) ∙ program.joins.target r.object (contains_map (λ (z : Pair). z.object) ps r b)
 
-module _ (ps : List Pair) (image : Tables) (program : IsProgram ps image) (p : Pair) (text : List ℕ) (d : Definition) (manner : Manner) (e : ℕ) (x : EntryLists) (plan : Planned)
+module _ (ps : List Pair) (image : Tables) (program : IsProgram ps image) (typed : (v : Subject) → IsAccepted v → AreTyped v) (p : Pair) (text : List ℕ) (d : Definition) (manner : Manner) (e : ℕ) (x : EntryLists) (plan : Planned)
     (running : IsRunning ps image p text d manner e x plan) (turns : ℕ) (limit : IsTurnLimit turns) (code : Listing) (code_is : code_of image x ≡ Some code) where
   abbrev here : Site
   here = site_at image turns (entry_at image turns 63) x code
@@ -161,7 +162,9 @@ module _ (ps : List Pair) (image : Tables) (program : IsProgram ps image) (p : P
     defined = defined_in_unit text p.unit d running.defined
 
     call_is : IsCallOf d c
-    call_is = call_of d c (kept (λ (z : CallText). not (is_print d.unit.texts z.callee)) (body_calls d) c is_own).among other (running.functions c is_own)
+    call_is =
+        let among_all : Contains (body_calls d) c = (kept (λ (z : CallText). not (is_print d.unit.texts z.callee)) (body_calls d) c is_own).among in
+        call_of d c among_all other (every_in IsFunctionCall (body_calls d) c (calls_mean_functions p.unit (typed p.unit (program.accepted p running.among)) text d running.defined) among_all)
 
     passed : option_map (λ (z : Declared). z.params) (declared_in_unit p.unit name) ≡ Some (types_called c)
     passed =

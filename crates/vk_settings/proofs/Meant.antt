@@ -20,7 +20,7 @@ pub record IsCallOf (d : Definition) (c : CallText) : Type 0 where
   pub first : first_declaration d.items c.callee ≡ Some (function declaration)
   pub types : types_called c ≡ types_of declaration.params
 
-every_in : {X : Type 0} (P : X → Type 0) (xs : List X) (x : X) → Every P xs → Contains xs x → P x
+pub every_in : {X : Type 0} (P : X → Type 0) (xs : List X) (x : X) → Every P xs → Contains xs x → P x
 every_in P [] x h (k, lt, at) = absurd (omega (arith, lt))
 every_in P (y ∷ xs) x h (zero, lt, at) = subst P at h.0
 every_in P (y ∷ xs) x h (suc k, lt, at) = every_in P xs x h.1 (k, omega (arith, lt), at)

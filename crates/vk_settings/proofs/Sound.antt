@@ -1,10 +1,9 @@
 -- In an accepted unit each called name means a function where it is called.
-use Rattle.std.proofs.Common.{◌≡◌, ℕ, ◌+◌, Bool, true, false, not, ◌&&◌, cond, List, [], ◌∷◌, ◌++◌, length, Contains, Option, Some, None, refl, sym, ap, subst, ◌∙◌}
+use Rattle.std.proofs.Common.{◌≡◌, ℕ, ◌+◌, Bool, true, false, not, ◌&&◌, cond, List, [], ◌∷◌, ◌++◌, length, Contains, Option, Some, None, refl, sym, subst}
 use Rattle.std.specs.List.{AllByRecursion}
 use Rattle.std.proofs.lemmas.List.{append-nil, append_assoc}
 use Rattle.vk_kinds.specs.declared.heads.CType.{CType}
 use Rattle.vk_kinds.specs.declared.heads.CType.TheVariants.{Int}
-use Rattle.vk_ast.specs.declared.names.NameId.{NameId}
 use Rattle.vk_ast.specs.Tree.{Tree, Trees, int, name, index, deref, addr, unary, binary, choice, cast, call, no_trees, more_trees}
 use Rattle.vk_ast.specs.Statements.{StmtTree, StmtTrees, empty, block, local, assign, value, if_only, if_else, while_loop, do_loop, for_loop, break_loop, continue_loop, return_value, simd, lost, no_stmts, more_stmts}
 use Rattle.vk_rules_book.specs.declared.contexts.Around.{Around}
@@ -14,9 +13,9 @@ use Rattle.vk_rules_book.specs.declared.typings.Typing.{Typing}
 use Rattle.vk_rules_book.specs.declared.typings.Typing.TheVariants.{Untyped}
 use Rattle.vk_rules_book.specs.Scopes.{Meaning, Scope, file_scope, with_params, a_function, a_variable, an_object, inside, meaning_of, with_binding}
 use Rattle.vk_rules_book.specs.Typings.{are_arguments, call_typing, called_typing, is_callable, is_typed, left_role, right_role, typing_of, typings_of, wanted_types}
-use Rattle.vk_rules_book.specs.Visits.{Visit, after, all_visits, along, argument_visits, around_body, block_scope, body_visits, called, directives_part, expression, function_part, in_loop, item_visits, parameter_visits, unit_visits, is_zero, optional_visits, parts_of, statement, stmt_visits, visits_of, with_role}
+use Rattle.vk_rules_book.specs.Visits.{Visit, after, all_visits, along, argument_visits, around_body, block_scope, body_visits, called, directives_part, expression, function_part, in_loop, item_visits, parameter_visits, unit_visits, is_zero, optional_visits, parts_of, stmt_visits, visits_of, with_role}
 use Rattle.vk_rules_laws.proofs.Each.{at_all, back, front}
-use Rattle.vk_meaning.specs.Points.{Point, past, branch_point, head_point, block_point, behind, loops_in}
+use Rattle.vk_meaning.specs.Points.{Point, past, branch_point, head_point, behind, loops_in}
 use Rattle.vk_meaning_laws.specs.Tame.{is_function}
 use Rattle.vk_meaning.specs.Programs.{Definition, first_point}
 use Rattle.vk_ast.specs.Units.{ItemTree, function}

@@ -2,22 +2,20 @@
 use Rattle.std.specs.Prelude.{◌≡◌, ◌≤◌, ◌^◌, Bool, length, ℕ, true, false, List, [], Some, Contains}
 use Rattle.vk_types.specs.declared.types.Ty.{Ty}
 use Rattle.vk_ast.specs.declared.names.NameId.{NameId}
-use Rattle.vk_rules_book.specs.Scopes.{an_object, meaning_of}
+use Rattle.vk_rules_book.specs.Scopes.{an_object}
 use Rattle.vk_meaning.specs.Programs.{Definition, arrays_of, definition_of, first_point}
-use Rattle.vk_meaning_laws.specs.Tame.{is_function}
 use Rattle.vk_code.specs.Listing.{CallSite, Listing}
 use Rattle.vk_object.specs.Images.{code_of, is_image}
 use Rattle.vk_object.specs.Machine.{entry_at, site_at}
 use Rattle.vk_object.specs.Tables.{EntryLists, Tables}
 use Rattle.vk_sites.specs.Bounds.{own_loops}
-use Rattle.vk_sites.specs.Calls.{CallText}
 use Rattle.vk_sites.specs.Objects.{objects_of as objects_named}
 use Rattle.vk_agree.specs.Agree.{IsTurnLimit, is_body}
 use Rattle.vk_agree.specs.Units.{definition_in}
 use Rattle.vk_joins.specs.Carries.{AreAccepted, CalleesAgree, HaveTables, Pair, objects_of, units_of}
-use Rattle.vk_joins.specs.Codes.{IsCodeOf, Manner, own_calls, symbols_of}
+use Rattle.vk_joins.specs.Codes.{IsCodeOf, Manner, symbols_of}
 use Rattle.vk_joins.specs.Joins.{IsPlannedEntry, Joins, Planned, array_number}
-use Rattle.vk_joins.specs.Links.{DoUnitsLink, body_calls}
+use Rattle.vk_joins.specs.Links.{DoUnitsLink}
 use Rattle.vk_promises.specs.Places.{TellsOf, setting_of}
 use Rattle.vk_promises.specs.Settings.{IsArrayOf, Setting}
 
@@ -39,8 +37,6 @@ pub record IsRunning (ps : List Pair) (image : Tables) (p : Pair) (text : List �
   pub planned : IsPlannedEntry (objects_of ps) image e x plan
   pub object : plan.made.object ≡ p.object
   pub code : IsCodeOf (symbols_of p.object) d.unit manner (first_point d) d.body plan.made.code
-  -- a called name means a function where it is called (C17 6.5.2.2)
-  pub functions : (c : CallText) → Contains (own_calls d.unit (body_calls d)) c → is_function (meaning_of c.scope c.callee) ≡ true
   pub no_body : is_body (Some x) ≡ false
 
 -- the definition of the function that a slot of the pair's object calls, and what the slot's row tells of it

@@ -26,6 +26,7 @@ ghost use Rattle.vk_settings.specs.Programs.{IsProgram, IsRunning, IsRunningAlon
 use vk_compose::laws::calls_are_shallow;
 use vk_meaning_laws::laws::stands_in_any_run;
 use vk_meaning_terms::laws::depth_is_of_no_matter;
+use vk_rules_laws::laws::expressions_have_types;
 
 /// In a program, what a caller's object tells of a function that it calls is what the function's definition says.
 pub fn callees_are_told()
@@ -39,7 +40,9 @@ pub fn calls_in_images_are_right()
     ensures { (ps : List Pair) (image : Tables) → IsProgram ps image → (p : Pair) (text : List ℕ) (d : Definition) (manner : Manner) (e : ℕ)
         (x : EntryLists) (plan : Planned) → IsRunning ps image p text d manner e x plan → (turns : ℕ) → IsTurnLimit turns → (code : Listing)
         → code_of image x ≡ Some code → CallsAreRight (running_setting ps image turns d x code) (own_calls d.unit (body_calls d)) }
-{}
+{
+    expressions_have_types();
+}
 
 /// A code without simd loops of which its maker keeps the promise does in an image what its function means.
 pub fn codes_agree()
@@ -60,6 +63,7 @@ pub fn codes_agree()
         → IsLocal d (running_setting ps image turns d x code) → 0 < x.lanes
         → RunsOnLanes (arrays_of (units_of ps)) (bodies_of image) (param_types d) (kinds_of s) (means (units_of ps) turns text) x.lanes (runs image turns e) }
 {
+    expressions_have_types();
     stands_in_any_run();
     calls_are_shallow();
     depth_is_of_no_matter();
