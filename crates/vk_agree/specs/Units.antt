@@ -1,5 +1,5 @@
 -- Accepted units, and what they define.
-use Rattle.std.specs.Prelude.{◌≡◌, true, Contains, ℕ, cond, List, [], ◌∷◌, map, slice_get, Option, Some, None, bytes_eq}
+use Rattle.std.specs.Prelude.{◌≡◌, true, Contains, ℕ, cond, List, [], ◌∷◌, map, Option, Some, None, bytes_eq}
 use Rattle.std.specs.Option.{option_or}
 use Rattle.vk_kinds.specs.declared.heads.CType.{CType}
 use Rattle.vk_kinds.specs.declared.kinds.Kind.{Kind}
