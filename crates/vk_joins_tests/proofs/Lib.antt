@@ -1,0 +1,5 @@
+mod Forms
+mod Texts
+mod Lanes
+mod Pointers
+mod Candidates

@@ -1,0 +1,4 @@
+pub mod Ends
+pub mod Targets
+mod Within
+mod Made

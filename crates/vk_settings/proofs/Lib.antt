@@ -1,0 +1,9 @@
+mod Heads
+mod Declared
+mod Files
+mod Meant
+mod Sound
+mod Told
+mod Calls
+mod Numbers
+mod Agreeing
