@@ -168,8 +168,12 @@ def output(command):
 def main():
     programs = int(sys.argv[1]) if len(sys.argv) > 1 else 300
     seed = int(sys.argv[2]) if len(sys.argv) > 2 else 1
-    if not shutil.which("gcc") or not os.path.exists(READ):
-        sys.exit("read.py: gcc and vk_read are needed")
+    if not shutil.which("gcc"):
+        print("read: no gcc here")
+        return
+    if not os.path.exists(READ):
+        print("read: the program is not built (rt run in crates/vk_read)")
+        return
     differences = lines = 0
     with tempfile.TemporaryDirectory() as folder:
         with open(f"{folder}/print.c", "w") as f:
@@ -190,7 +194,7 @@ def main():
             if found != want:
                 differences += 1
                 print(f"program {number} of seed {seed}", *units, "gcc:", want, "vfabi:", found, sep="\n")
-    print(f"{programs} programs, {lines} numbers, {differences} differences")
+    print(f"read: {programs} programs, {lines} numbers, {differences} differences")
     sys.exit(1 if differences else 0)
 
 
