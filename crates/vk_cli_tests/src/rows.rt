@@ -5,13 +5,7 @@ use vk_cli::vfabi;
 use vk_io::{MemSink, MemStore, Memory, Words};
 
 // The unit in the file `f.c`, the words, the bytes of `out` and `err`, and the status.
-pub type Row = (
-    &'static str,
-    &'static str,
-    &'static str,
-    &'static str,
-    u8,
-);
+pub type Row = (&'static str, &'static str, &'static str, &'static str, u8);
 
 // The words of a text.
 fn split(alloc: Global, text: &str) -> Result<Words, Memory> {
@@ -31,11 +25,7 @@ fn is_so(alloc: Global, row: &Row) -> Result<bool, Memory> {
     let mut told = MemSink::new(alloc, &[])?;
     let words = split(alloc, text)?;
     let end = vfabi(alloc, &words, &mut store, &mut said, &mut told);
-    Ok(
-        end.status() == *status
-            && said.bytes() == out.as_bytes()
-            && told.bytes() == err.as_bytes(),
-    )
+    Ok(end.status() == *status && said.bytes() == out.as_bytes() && told.bytes() == err.as_bytes())
 }
 
 /// The words of the first row that is not so.

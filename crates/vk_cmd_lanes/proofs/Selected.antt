@@ -46,9 +46,10 @@ directives_count unit n g at =
     ap (λ (o : Option FunctionTree). option_map_or (λ (h : FunctionTree). length h.directives) o 0) at ∙ sym (length-map g.directives (signature_of g))
 
 pub listed : (unit : Subject) (image : Isa) (vl : ℕ) (text : List ℕ) (s : Selected) → IsSelected unit image vl text s → IsListed unit s
-listed unit image vl text (Vector v lanes) h = let n = h.named in
-    (slice_get_within (functions_of unit) v.function n.tree n.function_is,
-    subst (λ k. v.directive < k) (sym (directives_count unit v.function n.tree n.function_is)) (slice_get_within (signatures n.tree) v.directive n.signature n.directive_is))
+listed unit image vl text (Vector v lanes) h = let n = h.named in (
+  slice_get_within (functions_of unit) v.function n.tree n.function_is,
+  subst (λ k. v.directive < k) (sym (directives_count unit v.function n.tree n.function_is)) (slice_get_within (signatures n.tree) v.directive n.signature n.directive_is),
+)
 listed unit image vl text (Scalar number) h = slice_get_within (functions_of unit) number h.0.tree h.0.function_is
 
 pub selected_at : (unit : Subject) (f : FunctionTree) (image : Isa) (vl : ℕ) (text : List ℕ) (s : Selected) → unit.items ≡ function f ∷ [] → IsSelected unit image vl text s →
@@ -81,8 +82,8 @@ lanes_same unit f image vl text v v' lanes lanes' one h h' =
     let n = h.named in let n' = h'.named in
     let same = names_same unit text v v' n n' in
     let widths : wds (head_of n.tree) n.signature ≡ wds (head_of n'.tree) n'.signature =
-        ap (λ (g : FunctionTree). wds (head_of g) n.signature) (is_the_one unit f n.tree v.function one n.function_is ∙ sym (is_the_one unit f n'.tree v'.function one n'.function_is))
-        ∙ wds_same (head_of n'.tree) n.signature n'.signature (ap (λ (x : Name). x.params) same) in
+    ap (λ (g : FunctionTree). wds (head_of g) n.signature) (is_the_one unit f n.tree v.function one n.function_is ∙ sym (is_the_one unit f n'.tree v'.function one n'.function_is))
+    ∙ wds_same (head_of n'.tree) n.signature n'.signature (ap (λ (x : Name). x.params) same) in
     some_same (lanes_at v.front.isa v.front.len (wds (head_of n.tree) n.signature) vl) lanes lanes' h.lanes_are
     (ap (λ (x : Name). lanes_at x.front.isa x.front.len (wds (head_of n.tree) n.signature) vl) same
     ∙ ap (λ k. lanes_at v'.front.isa v'.front.len k vl) widths ∙ h'.lanes_are)
@@ -93,8 +94,8 @@ variant_once unit f image vl text v v' lanes lanes' c c' one h h' is is' =
     let n = h.named in let n' = h'.named in
     let same = names_same unit text v v' n n' in
     let params : is.0.params ≡ is'.0.params =
-        ap (λ (s : SignatureTree). s.params) (sym (signature_at unit f text v is.0 one n is.1)) ∙ ap (λ (x : Name). x.params) same
-        ∙ ap (λ (s : SignatureTree). s.params) (signature_at unit f text v' is'.0 one n' is'.1) in
+    ap (λ (s : SignatureTree). s.params) (sym (signature_at unit f text v is.0 one n is.1)) ∙ ap (λ (x : Name). x.params) same
+    ∙ ap (λ (s : SignatureTree). s.params) (signature_at unit f text v' is'.0 one n' is'.1) in
     let few = lanes_same unit f image vl text v v' lanes lanes' one h h' in
     let masks : v.front.masked ≡ v'.front.masked = ap (λ (x : Name). x.front.masked) same in
     is.2 ∙ (λ i. record { types = types_of f.params; kinds = kinds_of (params i); lanes = few i; takes_mask = masks i }) ∙ sym is'.2

@@ -49,7 +49,10 @@ static LANES: [(&str, &str); 39] = [
     ("lanes --isa b - n", "lanes b - n"),
     ("lanes --isa b u n -- --", "lanes b u n --"),
     ("lanes --isa c u n", "lanes c u n"),
-    ("lanes --isa n u n 1 --mask 01 --turns 5", "lanes n u n 1 mask 01 turns 5"),
+    (
+        "lanes --isa n u n 1 --mask 01 --turns 5",
+        "lanes n u n 1 mask 01 turns 5",
+    ),
     ("lanes --isa s u n", "P4"),
     ("lanes --isa B u n", "P4"),
     ("lanes --isa bb u n", "P4"),
