@@ -1,7 +1,7 @@
 -- A call that was made prints its lines.
-use Rattle.std.proofs.Common.{◌≡◌, ◌∙◌, ℕ, ◌<◌, ◌≤◌, ◌+◌, ◌*◌, Bool, true, false, List, [], ◌∷◌, cond, length, map, Result, Err, refl, sym, ap, subst, arith, rules}
+use Rattle.std.proofs.Common.{◌≡◌, ◌∙◌, ℕ, ◌<◌, ◌≤◌, ◌*◌, Bool, List, [], cond, length, map, Result, Err, sym, ap, subst, arith}
 use Rattle.std.proofs.lemmas.List.{length-map}
-use Rattle.std.specs.List.{concat, flat_map, range_with_len}
+use Rattle.std.specs.List.{concat, range_with_len}
 use Rattle.vk_kinds.specs.declared.heads.CType.{CType}
 use Rattle.vk_types.specs.declared.types.Word.{Word}
 use Rattle.vk_ast.specs.declared.items.ParamDecl.{ParamDecl}
@@ -24,7 +24,7 @@ use Rattle.vk_lane_lines.specs.Lines.{line, told_by}
 use Rattle.vk_lane_lines.specs.declared.lines.Told.TheVariants.{Off}
 use Rattle.vk_unit_call.specs.Values.{scalar_value}
 use Rattle.vk_cmd_lanes.specs.Inner.{lines_on}
-use Rattle.vk_cmd_lanes.specs.Lanes.{Asked, IsCalledAs, IsCallee, PrintsCall, RefusesCall, lane_line}
+use Rattle.vk_cmd_lanes.specs.Lanes.{Asked, IsCalledAs, PrintsCall, RefusesCall, lane_line}
 use Rattle.vk_cmd_lanes.proofs.Lines.{flat_map_is, map_same, value_same}
 
 pub types_are : (f : FunctionTree) (s : Selected) (c : Called) → IsCalledAs f s c → c.types ≡ types_of f.params

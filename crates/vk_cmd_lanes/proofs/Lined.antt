@@ -4,7 +4,7 @@ use Rattle.std.specs.List.{flat_map, range_with_len}
 use Rattle.vk_types.specs.declared.types.Stop.{Stop}
 use Rattle.vk_ast.specs.Units.{FunctionTree, function}
 use Rattle.vk_rules_book.specs.Rules.{Subject}
-use Rattle.vk_arguments.specs.Arguments.{AreTaken, Called, IsRefused}
+use Rattle.vk_arguments.specs.Arguments.{Called, IsRefused}
 use Rattle.vk_arguments.specs.Integers.{integer_word}
 use Rattle.vk_arguments.proofs.Unique.{taken_apart}
 use Rattle.vk_ends.specs.Holds.{Agrees}
@@ -12,7 +12,7 @@ use Rattle.vk_ends.specs.declared.ends.CallRule.{CallRule}
 use Rattle.vk_ends.specs.declared.ends.CallRule.TheVariants.{A1, A2, A3, A4, A5}
 use Rattle.vk_ends.specs.declared.ends.Refusal.{Refusal}
 use Rattle.vk_ends.specs.declared.ends.Refusal.TheVariants.{Size, Name as Unnamed, Unit as Unfit, NotYet, Call}
-use Rattle.vk_cmd_lanes.specs.Lanes.{Asked, IsCallee, IsRunUnit, PrintsCall, PrintsLanes, RefusesCall, RefusesLanes, lane_line}
+use Rattle.vk_cmd_lanes.specs.Lanes.{Asked, IsCallee, PrintsCall, PrintsLanes, RefusesCall, RefusesLanes, lane_line}
 use Rattle.vk_cmd_lanes.proofs.Readings.{run_built, run_once, run_unrefused}
 use Rattle.vk_cmd_lanes.proofs.Selected.{callee_once}
 

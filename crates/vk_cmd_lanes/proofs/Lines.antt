@@ -1,5 +1,5 @@
 -- The lines of a call are those of its lanes.
-use Rattle.std.proofs.Common.{◌≡◌, ◌∙◌, ℕ, ◌+◌, ◌≤◌, ◌<◌, suc, zero, Bool, true, false, List, [], ◌∷◌, ◌++◌, cond, length, map, get_or, Option, Some, None, Result, Ok, Err, IfOk, refl, sym, ap, subst, arith}
+use Rattle.std.proofs.Common.{◌≡◌, ◌∙◌, ℕ, ◌+◌, ◌≤◌, ◌<◌, suc, zero, Bool, true, false, List, [], ◌∷◌, ◌++◌, cond, length, map, Option, Some, Result, Ok, Err, IfOk, refl, ap, arith}
 use Rattle.std.specs.List.{concat, flat_map, range_with_len}
 use Rattle.vk_types.specs.declared.types.Stop.{Stop}
 use Rattle.vk_types.specs.declared.types.Ty.{Ty}
@@ -11,7 +11,7 @@ use Rattle.vk_memory.specs.declared.want.Memory.{Memory}
 use Rattle.vk_ast.specs.Units.{FunctionTree}
 use Rattle.vk_rules_book.specs.Rules.{Subject}
 use Rattle.vk_rules_book.specs.Scopes.{text_of, types_of}
-use Rattle.vk_meaning.specs.Lanes.{Words, arguments_of, data_from, datum_of}
+use Rattle.vk_meaning.specs.Lanes.{Words, data_from, datum_of}
 use Rattle.vk_meaning.specs.Data.{Datum}
 use Rattle.vk_lane_lines.specs.Lines.{ended, lane_lines, line, stops_in, told_by, told_of}
 use Rattle.vk_lane_lines.specs.declared.lines.Told.{Told}

@@ -2,9 +2,9 @@
 use Rattle.std.proofs.Common.{◌≡◌, ◌∙◌, ℕ, List, [], ◌∷◌, inl, inr, ap, sym, subst}
 use Rattle.vk_kinds.specs.declared.kinds.Target.{Target}
 use Rattle.vk_unit_rules.specs.declared.rules.UnitRule.{UnitRule}
-use Rattle.vk_ast.specs.Units.{FunctionTree, ItemTree, function}
+use Rattle.vk_ast.specs.Units.{FunctionTree, function}
 use Rattle.vk_rules_book.specs.Rules.{Subject}
-use Rattle.vk_accept.specs.Accepted.{HasSimdLine, IsUnitRefused}
+use Rattle.vk_accept.specs.Accepted.{IsUnitRefused}
 use Rattle.vk_accept.proofs.Readings.{accepted_once, accepted_plain, accepted_unrefused}
 use Rattle.vk_one_return.specs.Form.{IsForm}
 use Rattle.vk_selection.specs.Letters.{target_of}

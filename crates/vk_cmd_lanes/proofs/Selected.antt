@@ -1,11 +1,10 @@
 -- What a name selects in a unit of one function.
-use Rattle.std.proofs.Common.{◌≡◌, ◌∙◌, ℕ, zero, suc, ◌<◌, ◌≤◌, ◌||◌, Bool, true, false, List, [], ◌∷◌, ◌++◌, cond, length, map, Option, Some, None, is_some, slice_get, refl, sym, ap, subst, arith}
+use Rattle.std.proofs.Common.{◌≡◌, ◌∙◌, ℕ, zero, suc, ◌<◌, ◌≤◌, ◌||◌, Bool, true, false, List, [], ◌∷◌, ◌++◌, cond, length, Option, Some, is_some, slice_get, sym, ap, subst, arith}
 use Rattle.std.proofs.lemmas.Option.{slice_get_within}
 use Rattle.std.proofs.lemmas.List.{length-map}
 use Rattle.std.specs.Option.{option_map_or}
 use Rattle.vk_kinds.specs.declared.kinds.Isa.{Isa}
 use Rattle.vk_kinds.specs.declared.kinds.Isa.TheVariants.{S}
-use Rattle.vk_kinds.specs.declared.kinds.Length.{Length}
 use Rattle.vk_kinds.specs.declared.kinds.Param.{Param}
 use Rattle.vk_kinds.specs.Lengths.{lanes_at}
 use Rattle.vk_kinds.specs.Sizes.{HeadTypes, SignatureTree, greatest_of, lane_sizes, result_sizes, wds}
@@ -16,9 +15,9 @@ use Rattle.vk_rules_book.specs.Directives.{signatures}
 use Rattle.vk_rules_book.specs.Rules.{Subject}
 use Rattle.vk_rules_book.specs.Scopes.{first_declaration, is_print, text_of, types_of}
 use Rattle.vk_rules_book.specs.Signatures.{head_of, signature_of}
-use Rattle.vk_rules.specs.Functions.{directives_at, function_at, functions_from, functions_of}
+use Rattle.vk_rules.specs.Functions.{directives_at, functions_from, functions_of}
 use Rattle.vk_variants.specs.Directives.{name_with}
-use Rattle.vk_selection.specs.Selection.{IsNamed, IsScalar, IsSelected, IsVector}
+use Rattle.vk_selection.specs.Selection.{IsNamed, IsSelected, IsVector}
 use Rattle.vk_selection.specs.declared.selection.Selected.{Selected}
 use Rattle.vk_selection.specs.declared.selection.Selected.TheVariants.{Vector, Scalar}
 use Rattle.vk_selection.specs.declared.selection.Variant.{Variant}

@@ -1,5 +1,5 @@
 -- What `lanes` does over a unit: what it prints, how it refuses the unit or the call, and what holds with each answer.
-use Rattle.std.specs.Prelude.{◌≡◌, ◌⊎◌, ⊤, ℕ, ◌<◌, ◌≤◌, Bool, true, List, [], ◌∷◌, cond, length, Option, None, Some, slice_get}
+use Rattle.std.specs.Prelude.{◌≡◌, ◌⊎◌, ⊤, ℕ, ◌<◌, ◌≤◌, true, List, [], ◌∷◌, cond, length, Option, None, Some, slice_get}
 use Rattle.std.specs.List.{flat_map, range_with_len}
 use Rattle.vk_types.specs.declared.types.Stop.{Stop}
 use Rattle.vk_types.specs.declared.types.Ty.{Ty}
@@ -25,7 +25,6 @@ use Rattle.vk_unit_call.specs.Values.{scalar_value}
 use Rattle.vk_lane_lines.specs.Lines.{line, told_by}
 use Rattle.vk_lane_lines.specs.declared.lines.Told.TheVariants.{Off}
 use Rattle.vk_ends.specs.Holds.{Holds}
-use Rattle.vk_ends.specs.declared.ends.CallFault.{CallFault}
 use Rattle.vk_ends.specs.declared.ends.CallRule.{CallRule}
 use Rattle.vk_ends.specs.declared.ends.CallRule.TheVariants.{A1}
 use Rattle.vk_ends.specs.declared.ends.Refusal.{Refusal}

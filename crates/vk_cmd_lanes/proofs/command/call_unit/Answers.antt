@@ -1,5 +1,5 @@
 -- An accepted unit of another form is not run yet.
-use Rattle.std.proofs.Common.{◌≡◌, ◌∙◌, Some, inr, refl, rules, subst, sym}
+use Rattle.std.proofs.Common.{◌≡◌, ◌∙◌, Some, inr, refl, subst}
 use Rattle.vk_ends.specs.declared.ends.Refusal.{Refusal}
 use Rattle.vk_ends.specs.declared.ends.Refusal.TheVariants.{NotYet}
 use Rattle.vk_rules.specs.Verdicts.{judged}

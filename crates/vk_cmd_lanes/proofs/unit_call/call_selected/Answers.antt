@@ -1,14 +1,14 @@
 -- The callee by what is selected, its arguments, and the lines of its lanes.
-use Rattle.std.proofs.Common.{◌≡◌, ◌∙◌, ℕ, ◌<◌, List, Err, length, ap, sym, subst}
+use Rattle.std.proofs.Common.{◌∙◌, ℕ, ◌<◌, List, Err, length, ap, sym, subst}
 use Rattle.vk_ast.specs.Units.{function_of}
 use Rattle.vk_rules.specs.Verdicts.{judged}
 use Rattle.vk_selection.specs.Selection.{IsSelected}
 use Rattle.vk_arguments.specs.Arguments.{called}
 use Rattle.vk_arguments.specs.declared.arguments.NoArguments.TheVariants.{Refused}
 use Rattle.vk_lanes.specs.Masks.{is_on, lane_count}
-use Rattle.vk_cmd_lanes.specs.Lanes.{IsCalledAs, asked_of}
+use Rattle.vk_cmd_lanes.specs.Lanes.{asked_of}
 use Rattle.vk_cmd_lanes.proofs.Calls.{fault_is, few_parameters, prints_call, refuses_call, typed_call, words_fit}
-use Rattle.vk_cmd_lanes.proofs.Selected.{lanes_few, lanes_some, listed, selected_at}
+use Rattle.vk_cmd_lanes.proofs.Selected.{lanes_few, lanes_some, selected_at}
 use Rattle.vk_cmd_lanes.proofs.unit_call.call_selected.Goals as goal
 
 pub arguments_of-requires-clause-parameters : goal.arguments_of-requires-clause-parameters

@@ -1,6 +1,4 @@
 -- Each active lane ended as its scalar call does.
-use Rattle.std.proofs.Common.{◌∙◌, Some, ap, rules, subst, sym}
-use Rattle.vk_types.specs.declared.types.Stop.{Stop}
 use Rattle.vk_ast.specs.Units.{function_of}
 use Rattle.vk_lanes.specs.Masks.{is_on, lane_count}
 use Rattle.vk_lanes.specs.Words.{word_in}
