@@ -135,15 +135,19 @@ def by_gcc(folder, c, calls):
 
 def calls_of(rng, folder, params, kinds, steps):
     """For some names of the unit: the letter, the name, the mask, and the numbers."""
-    names = ["f"]
-    for target in ("x86-64", "aarch64"):
-        names += run("mangle", "--target", target, "f.c", folder=folder).stdout.split()
+    names, letters = ["f"], ""
+    for target, those in (("x86-64", "bcde"), ("aarch64", "n")):
+        named = run("mangle", "--target", target, "f.c", folder=folder)
+        names += named.stdout.split()
+        letters += those if named.returncode == 0 else ""
+    if not letters:
+        return
     for name in names if len(names) < 6 else rng.sample(names, 6):
         found = re.match(r"_ZGV([bcden])([NM])(\d+)", name)
         if name != "f" and not found:
             continue
         lanes = int(found.group(3)) if found else 1
-        letter = rng.choice(LETTERS[found.group(1)] if found else "bcden")
+        letter = rng.choice(LETTERS[found.group(1)] if found else letters)
         may_be_off = not found or found.group(2) == "M"
         mask = "".join(rng.choice("011") if may_be_off else "1" for _ in range(lanes))
         yield letter, name, mask, arguments(rng, params, kinds if found else [""] * len(params), steps, lanes, mask)
