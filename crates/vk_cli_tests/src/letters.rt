@@ -3,7 +3,7 @@
 use crate::rows::{Row, other};
 use std::test::Fail;
 
-pub static LETTERS: [Row; 22] = [
+pub static LETTERS: [Row; 24] = [
     (
         "#pragma omp declare simd notinbranch\nint f(int a, int b) { return a * b + 1; }\n",
         "lanes --isa b f.c _ZGVbN4vv_f 1,2,3,2147483647 1,2,3,2",
@@ -156,6 +156,20 @@ pub static LETTERS: [Row; 22] = [
         "lanes --isa d f.c _ZGVdN8vv_f. 1 1",
         "",
         "vfabi: call: A1 0 0\n",
+        1,
+    ),
+    (
+        "#pragma omp declare simd notinbranch\nint f(int a, int b) { return a * b + 1; }\n",
+        "lanes --isa b f.c _ZGVbN8vv_f 1,2,3,2147483647 1,2,3,2",
+        "",
+        "vfabi: call: A1 0 0\n",
+        1,
+    ),
+    (
+        "#pragma omp declare simd notinbranch\nint f(int a, int b) { return a * b + 1; }\n",
+        "lanes --isa b f.c _ZGVbN4vv_f 1,2,3 1,2,3,2",
+        "",
+        "vfabi: call: A4 0 3\n",
         1,
     ),
 ];

@@ -3,7 +3,7 @@
 use crate::rows::{Row, other};
 use std::test::Fail;
 
-pub static MASKS: [Row; 26] = [
+pub static MASKS: [Row; 31] = [
     (
         "#pragma omp declare simd\nint f(int a, int b) { return a / b; }\n",
         "lanes --isa b --mask 1111 f.c _ZGVbM4vv_f 8,9,10,11 2,0,-3,4",
@@ -185,6 +185,41 @@ pub static MASKS: [Row; 26] = [
         "",
         "vfabi: call: A1 0 0\n",
         1,
+    ),
+    (
+        "#pragma omp declare simd\nint q(int a, int b) { return a / b; }\n",
+        "lanes --isa b f.c _ZGVbN4vv_q 7,8,9,10 2,0,3,5",
+        "lane 0: 3\nlane 1: stop divide\nlane 2: 3\nlane 3: 2\n",
+        "",
+        0,
+    ),
+    (
+        "#pragma omp declare simd uniform(k)\nint add(int a, int k) { return a + k; }\n",
+        "lanes --isa b --mask 0110 f.c _ZGVbM4vu_add 1,2,3,4 9,5,5,9",
+        "lane 0: off\nlane 1: 7\nlane 2: 8\nlane 3: off\n",
+        "",
+        0,
+    ),
+    (
+        "#pragma omp declare simd uniform(k)\nint add(int a, int k) { return a + k; }\n",
+        "lanes --isa b --mask 0110 f.c _ZGVbM4vu_add 1,2,3,4 9,5,6,9",
+        "",
+        "vfabi: call: A2 1 2\n",
+        1,
+    ),
+    (
+        "#pragma omp declare simd uniform(k)\nint add(int a, int k) { return a + k; }\n",
+        "lanes --isa b --mask 0110 f.c _ZGVbN4vu_add 1,2,3,4 9,5,5,9",
+        "",
+        "vfabi: call: A5 0 0\n",
+        1,
+    ),
+    (
+        "#pragma omp declare simd uniform(k)\nint add(int a, int k) { return a + k; }\n",
+        "lanes --isa b --mask 0000 f.c _ZGVbM4vu_add 1,2,3,4 9,5,5,9",
+        "lane 0: off\nlane 1: off\nlane 2: off\nlane 3: off\n",
+        "",
+        0,
     ),
 ];
 
