@@ -1,5 +1,5 @@
 -- What `?:` gives where its condition has a number.
-use Rattle.std.proofs.Common.{◌≡◌, ◌≢◌, Bool, true, cond, ℤ, pos, Option, Some, None, unwrap_or, ap, ◌∙◌, rules}
+use Rattle.std.proofs.Common.{◌≡◌, ◌≢◌, true, cond, ℤ, pos, Option, Some, None, unwrap_or, ap, ◌∙◌, rules}
 use Rattle.std.proofs.lemmas.Option.{none-some}
 use Rattle.vk_types.specs.declared.types.Ty.{Ty}
 use Rattle.vk_types.specs.declared.types.Ty.TheVariants.{I32}

@@ -1,5 +1,5 @@
 -- What an operator does on constants is what the rules of units compute, one lemma an operator.
-use Rattle.std.proofs.Common.{◌≡◌, Bool, true, false, not, ◌&&◌, cond, ℤ, pos, Result, Ok, Err, Option, Some, None, unwrap_or, refl, ap, ◌∙◌}
+use Rattle.std.proofs.Common.{◌≡◌, Bool, true, false, not, ◌&&◌, cond, ℤ, pos, Result, Ok, Err, Option, Some, unwrap_or, refl, ap, ◌∙◌}
 use Rattle.std.proofs.lemmas.Option.{none-some}
 use Rattle.std.specs.Ordering.{int_eq}
 use Rattle.vk_types.specs.declared.types.Ty.{Ty}
@@ -11,13 +11,12 @@ use Rattle.vk_ast.specs.declared.expressions.BinOp.{BinOp}
 use Rattle.vk_ast.specs.declared.expressions.BinOp.TheVariants.{Add, Sub, Mul, Div, Rem, And, Or, Xor, Shl, Shr, Eq, Ne, Lt, Le, Gt, Ge, LogAnd, LogOr}
 use Rattle.vk_numbers.specs.Types.{unary_type, binary_type}
 use Rattle.vk_numbers.specs.Values as computed
-use Rattle.vk_numbers.specs.Operators.{is_on, holds, unary_number, binary_number, unary_value, binary_value, choice_value}
+use Rattle.vk_numbers.specs.Operators.{holds, unary_number, binary_number, unary_value, binary_value, choice_value}
 use Rattle.vk_rules_book.specs.declared.typings.Typing.{Typing}
 use Rattle.vk_rules_book.specs.declared.typings.Typing.TheVariants.{Number, Variable, Cell, Pointer, Nothing, Function, Untyped}
 use Rattle.vk_rules_book.specs.Typings as typings
 use Rattle.vk_rules_book.specs.Typings.{number_type, is_pointer, is_sum, is_plus, binary_typing, unary_typing, cast_typing, choice_typing}
-use Rattle.vk_meaning.specs.World.{World}
-use Rattle.vk_meaning.specs.Data.{Action, number, given, then_number}
+use Rattle.vk_meaning.specs.Data.{Action, then_number}
 use Rattle.vk_meaning.specs.Expressions.{answered, truth_of, integers_value, operator_value, integer_type, chosen, converted}
 use Rattle.vk_meaning_constants.specs.Standing.{stands_for}
 

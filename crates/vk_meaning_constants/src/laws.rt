@@ -46,8 +46,8 @@ pub fn short_circuits()
         value_of c scope vs (binary l k LogOr a b) w ≡ got (number (truth (is_on y))) w'' }
 {}
 
-/// `?:` evaluates one of its second and third operand (C17 6.5.15): what a stop or a number of the expression's type is given by, is the
-/// same whatever the other one is.
+/// `?:` evaluates its second operand where the first is not 0, else its third (C17 6.5.15), and nothing of the other one: it gives that
+/// operand's stop, or its number where this is one of the expression's type, and leaves the world as that operand does.
 pub fn choices_evaluate_one()
     ensures first { (c : Context) (scope : Scope) (vs : Variables) (l k : ℕ) (a x y : Tree) (t : Ty) (n z : ℤ) (w w' w'' : World) →
         number_type (typing_of scope (choice l k a x y)) ≡ Some t → value_of c scope vs a w ≡ got (number n) w' → n ≢ pos 0 →
