@@ -1,0 +1,3 @@
+mod Operators
+mod Constants
+mod Choices
