@@ -4,7 +4,7 @@ use std::test::Fail;
 use vk_image_codec::read_image;
 use vk_image_write::write_image;
 use vk_kinds::{Isa, Target};
-use vk_object::EntryKind;
+use vk_object::{EntryKind, LoopTargets};
 
 #[test]
 fn an_image_has_its_tables(rt: HostRuntime) -> Result<(), Fail> {
@@ -19,7 +19,8 @@ fn an_image_has_its_tables(rt: HostRuntime) -> Result<(), Fail> {
     assert_eq!(rt; image.entries[0].kind, EntryKind::N);
     assert_eq!(rt; image.entries[0].params.len(), 2);
     assert_eq!(rt; image.entries[2].targets.as_slice(), &[1][..]);
-    assert_eq!(rt; image.entries[2].loops[0].chunk, 4);
+    let loops = [LoopTargets { chunk: 4, rest: 3 }];
+    assert_eq!(rt; image.entries[2].loops.as_slice(), &loops[..]);
     Ok(())
 }
 
