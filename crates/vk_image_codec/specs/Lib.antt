@@ -1,0 +1,5 @@
+pub mod Rows
+pub mod Images
+pub mod Standing
+pub mod Reading
+pub mod Inner

@@ -1,0 +1,4 @@
+pub mod Asked
+pub mod Linked
+pub mod Rounds
+pub mod Rules

@@ -1,4 +1,0 @@
-pub mod Rows
-pub mod Wanted
-pub mod Standing
-pub mod Reading

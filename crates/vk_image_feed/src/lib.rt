@@ -1,7 +1,0 @@
-//! The tables of an image from bytes in pieces.
-#![tactic(auto)]
-
-pub mod feed;
-pub mod rows;
-
-pub use feed::RawImageFeed;
