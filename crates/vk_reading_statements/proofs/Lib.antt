@@ -7,3 +7,4 @@ pub mod Storing
 pub mod Sequence
 pub mod Declaring
 pub mod Shaped
+pub mod Turning

@@ -8,21 +8,22 @@ use Rattle.vk_ast.proofs.Rows.{block_seen}
 use Rattle.vk_ast.specs.Statements.{list_stmts, stmt_kind_of, stmt_of}
 use Rattle.vk_rules_book.specs.declared.contexts.Binding.{Binding}
 use Rattle.vk_rules_names.specs.Seen.{scope_at}
+use Rattle.vk_meaning.specs.Expressions.{Context}
 use Rattle.vk_meaning.specs.Statements.{broke, condition_of, continued, repeat, run, run_all, run_simd, turns}
 use Rattle.vk_reading_steps.specs.Settings.{AreHeld}
 use Rattle.vk_reading_statements.specs.declared.flow.Flow.TheVariants.{Broke, Continued}
 use Rattle.vk_reading_statements.specs.Loops.{test_in, turn_of}
 use Rattle.vk_reading_statements.specs.Places.{context_at, point_in, scope_in}
-use Rattle.vk_reading_statements.proofs.AddsAll.{adds_condition, adds_turn}
-use Rattle.vk_reading_statements.proofs.Constructs.{body_halted, none_taken, second_taken, same_effect, same_flow, same_values, test_halted, test_off, test_on, third_left, third_run, turn_halted, turn_left, turns_over, while_halted, while_off, while_on}
-use Rattle.vk_reading_statements.proofs.Exits.{exit_acts, same_test}
+use Rattle.vk_reading_statements.proofs.Constructs.{none_taken, second_taken, same_effect, same_values, while_halted, while_off, while_on}
+use Rattle.vk_reading_statements.proofs.Exits.{exit_acts}
 use Rattle.vk_reading_statements.proofs.Flowing.{acts_ended, goes_on, jumps, leads_itself}
 use Rattle.vk_reading_statements.proofs.Shaped.{behind_block, block_apart, block_shared, bound_halted, for_done, for_halted, if_halted, if_taken, simd_done, simd_halted}
-use Rattle.vk_reading_statements.proofs.Sequence.{all_done, fell_if, kept, kept_further, next_fell, next_halted, next_jumped, next_scope, same_rest, whole_list}
+use Rattle.vk_reading_statements.proofs.Turning.{for_body_halted, for_body_left, for_third_run, next_test_halted, next_test_off, next_test_on, next_turn_halted, next_turn_left, no_turn_left}
+use Rattle.vk_reading_statements.proofs.Sequence.{all_done, fell_if, kept, kept_further, next_fell, next_halted, next_jumped, next_scope, whole_list}
 use Rattle.std.proofs.lemmas.List.{take_all}
 use Rattle.std.proofs.lemmas.Result.{IfOk-weaker, on_ok_weaker}
 use Rattle.vk_rules_book.specs.Visits.{after, after_all}
-use Rattle.vk_meaning.specs.Points.{loops_in}
+use Rattle.vk_meaning.specs.Points.{Point, loops_in}
 use Rattle.vk_reading_statements.proofs.statements.+running.Goals as goal
 
 pub run_apart-returns-in_err-flow-clause-acts : goal.run_apart-returns-in_err-flow-clause-acts
@@ -64,32 +65,39 @@ run_block-returns-clause-held g t c = subst AreHeld (sym c.cut.ensures.values) c
 
 pub run_turn-returns-in-While-clause-acts : goal.run_turn-returns-in-While-clause-acts
 run_turn-returns-in-While-clause-acts g t c loops =
+    let context : Context = context_at (g.C.Calls.arrays c.args.calls.now) (g.C.Calls.call c.args.calls.now) c.args.body.now in
     let d : c.deref.result.now ≡ c.in-While.stmt.value = search rules in
-    same_effect (ap (λ (s : Stmt). run (context_at (g.C.Calls.arrays c.args.calls.now) (g.C.Calls.call c.args.calls.now) c.args.body.now) (point_in c.args.body.now c.args.locals.now (length c.args.locals.now.bindings.items) false loops) (stmt_of s)) d
-    ∙ ap (λ (k : StmtKind). turn_of (context_at (g.C.Calls.arrays c.args.calls.now) (g.C.Calls.call c.args.calls.now) c.args.body.now) (point_in c.args.body.now c.args.locals.now c.args.outer false loops) (stmt_kind_of k c.args.s.now.line c.args.s.now.token)) (sym c.in-While.is)) (c.run_inside.ensures.acts loops)
+    same_effect (ap (λ (s : Stmt). run context (point_in c.args.body.now c.args.locals.now (length c.args.locals.now.bindings.items) false loops) (stmt_of s)) d
+    ∙ ap (λ (k : StmtKind). turn_of context (point_in c.args.body.now c.args.locals.now c.args.outer false loops) (stmt_kind_of k c.args.s.now.line c.args.s.now.token)) (sym c.in-While.is)) (c.run_inside.ensures.acts loops)
 
 pub run_turn-returns-in-Do-clause-acts : goal.run_turn-returns-in-Do-clause-acts
 run_turn-returns-in-Do-clause-acts g t c loops =
+    let context : Context = context_at (g.C.Calls.arrays c.args.calls.now) (g.C.Calls.call c.args.calls.now) c.args.body.now in
     let d : c.deref-in-Do.result.now ≡ c.in-Do.stmt.value = search rules in
-    same_effect (ap (λ (s : Stmt). run (context_at (g.C.Calls.arrays c.args.calls.now) (g.C.Calls.call c.args.calls.now) c.args.body.now) (point_in c.args.body.now c.args.locals.now (length c.args.locals.now.bindings.items) false loops) (stmt_of s)) d
-    ∙ ap (λ (k : StmtKind). turn_of (context_at (g.C.Calls.arrays c.args.calls.now) (g.C.Calls.call c.args.calls.now) c.args.body.now) (point_in c.args.body.now c.args.locals.now c.args.outer false loops) (stmt_kind_of k c.args.s.now.line c.args.s.now.token)) (sym c.in-Do.is)) (c.run_inside-in-Do.ensures.acts loops)
+    same_effect (ap (λ (s : Stmt). run context (point_in c.args.body.now c.args.locals.now (length c.args.locals.now.bindings.items) false loops) (stmt_of s)) d
+    ∙ ap (λ (k : StmtKind). turn_of context (point_in c.args.body.now c.args.locals.now c.args.outer false loops) (stmt_kind_of k c.args.s.now.line c.args.s.now.token)) (sym c.in-Do.is)) (c.run_inside-in-Do.ensures.acts loops)
 
 pub run_turn-returns-in_err-flow-in-For-clause-acts : goal.run_turn-returns-in_err-flow-in-For-clause-acts
 run_turn-returns-in_err-flow-in-For-clause-acts g t c loops =
+    let context : Context = context_at (g.C.Calls.arrays c.args.calls.now) (g.C.Calls.call c.args.calls.now) c.args.body.now in
+    let point : Point = point_in c.args.body.now c.args.locals.now c.args.outer false loops in
     let d : c.deref-in-For.result.now ≡ c.in-For.stmt.value = search rules in
-    exit_acts c.from_residual.result c.from_residual.ensures.1 (same_effect (ap (λ (k : StmtKind). turn_of (context_at (g.C.Calls.arrays c.args.calls.now) (g.C.Calls.call c.args.calls.now) c.args.body.now) (point_in c.args.body.now c.args.locals.now c.args.outer false loops) (stmt_kind_of k c.args.s.now.line c.args.s.now.token)) (sym c.in-For.is)) (body_halted (context_at (g.C.Calls.arrays c.args.calls.now) (g.C.Calls.call c.args.calls.now) c.args.body.now) (g.met.C.Calls.adds c.args.calls.now) (point_in c.args.body.now c.args.locals.now c.args.outer false loops) (stmt_of c.in-For.third.value) (stmt_of c.in-For.stmt.value) (same_effect (ap (λ (s : Stmt). run (context_at (g.C.Calls.arrays c.args.calls.now) (g.C.Calls.call c.args.calls.now) c.args.body.now) (point_in c.args.body.now c.args.locals.now (length c.args.locals.now.bindings.items) false loops) (stmt_of s)) d) (c.in_err-flow-in-For.ensures.acts loops))))
+    exit_acts c.from_residual.result c.from_residual.ensures.1 (for_body_halted context (g.met.C.Calls.adds c.args.calls.now) point (stmt_of c.args.s.now) c.args.s.now.line c.args.s.now.token (stmt_of c.in-For.field-0.value) (stmt_of c.in-For.third.value) (stmt_of c.in-For.stmt.value) (option_map expr_of c.in-For.field-1) (ap (λ (k : StmtKind). stmt_kind_of k c.args.s.now.line c.args.s.now.token) c.in-For.is) (stmt_of c.deref-in-For.result.now) (ap stmt_of d) (c.in_err-flow-in-For.ensures.acts loops))
 
 pub run_turn-returns-then-leaves_loop-clause-acts : goal.run_turn-returns-then-leaves_loop-clause-acts
 run_turn-returns-then-leaves_loop-clause-acts g t c loops =
+    let context : Context = context_at (g.C.Calls.arrays c.args.calls.now) (g.C.Calls.call c.args.calls.now) c.args.body.now in
+    let point : Point = point_in c.args.body.now c.args.locals.now c.args.outer false loops in
     let d : c.deref-in-For.result.now ≡ c.in-For.stmt.value = search rules in
-    same_effect (ap (λ (k : StmtKind). turn_of (context_at (g.C.Calls.arrays c.args.calls.now) (g.C.Calls.call c.args.calls.now) c.args.body.now) (point_in c.args.body.now c.args.locals.now c.args.outer false loops) (stmt_kind_of k c.args.s.now.line c.args.s.now.token)) (sym c.in-For.is)) (third_left (context_at (g.C.Calls.arrays c.args.calls.now) (g.C.Calls.call c.args.calls.now) c.args.body.now) (g.met.C.Calls.adds c.args.calls.now) (point_in c.args.body.now c.args.locals.now c.args.outer false loops) (stmt_of c.in-For.third.value) (stmt_of c.in-For.stmt.value) c.in_ok-flow-in-For.flow (same_effect (ap (λ (s : Stmt). run (context_at (g.C.Calls.arrays c.args.calls.now) (g.C.Calls.call c.args.calls.now) c.args.body.now) (point_in c.args.body.now c.args.locals.now (length c.args.locals.now.bindings.items) false loops) (stmt_of s)) d) (c.in_ok-flow-in-For.ensures.acts loops)) (sym c.if-leaves_loop.ensures))
+    for_body_left context (g.met.C.Calls.adds c.args.calls.now) point (stmt_of c.args.s.now) c.args.s.now.line c.args.s.now.token (stmt_of c.in-For.field-0.value) (stmt_of c.in-For.third.value) (stmt_of c.in-For.stmt.value) (option_map expr_of c.in-For.field-1) (ap (λ (k : StmtKind). stmt_kind_of k c.args.s.now.line c.args.s.now.token) c.in-For.is) (stmt_of c.deref-in-For.result.now) (ap stmt_of d) c.in_ok-flow-in-For.flow (c.in_ok-flow-in-For.ensures.acts loops) (sym c.if-leaves_loop.ensures)
 
 pub run_turn-returns-else-leaves_loop-clause-acts : goal.run_turn-returns-else-leaves_loop-clause-acts
 run_turn-returns-else-leaves_loop-clause-acts g t c loops =
+    let context : Context = context_at (g.C.Calls.arrays c.args.calls.now) (g.C.Calls.call c.args.calls.now) c.args.body.now in
+    let point : Point = point_in c.args.body.now c.args.locals.now c.args.outer false loops in
     let d : c.deref-in-For.result.now ≡ c.in-For.stmt.value = search rules in
     let e : c.deref-in-For-2.result.now ≡ c.in-For.third.value = search rules in
-    same_effect (ap (λ (k : StmtKind). turn_of (context_at (g.C.Calls.arrays c.args.calls.now) (g.C.Calls.call c.args.calls.now) c.args.body.now) (point_in c.args.body.now c.args.locals.now c.args.outer false loops) (stmt_kind_of k c.args.s.now.line c.args.s.now.token)) (sym c.in-For.is)) (third_run (context_at (g.C.Calls.arrays c.args.calls.now) (g.C.Calls.call c.args.calls.now) c.args.body.now) (g.met.C.Calls.adds c.args.calls.now) (point_in c.args.body.now c.args.locals.now c.args.outer false loops) (stmt_of c.in-For.third.value) (stmt_of c.in-For.stmt.value) c.in_ok-flow-in-For.flow (same_effect (ap (λ (s : Stmt). run (context_at (g.C.Calls.arrays c.args.calls.now) (g.C.Calls.call c.args.calls.now) c.args.body.now) (point_in c.args.body.now c.args.locals.now (length c.args.locals.now.bindings.items) false loops) (stmt_of s)) d) (c.in_ok-flow-in-For.ensures.acts loops)) (sym c.if-leaves_loop.ensures)
-    (same_effect (λ i. run (context_at (g.C.Calls.arrays c.args.calls.now) (g.C.Calls.call c.args.calls.now) c.args.body.now) (record { scope = scope_at c.args.body.now.file (c.in_ok-flow-in-For.ensures.same i) c.args.outer; shares = false; loops = loops }) (stmt_of (e i))) (c.run_apart.ensures.acts loops)))
+    for_third_run context (g.met.C.Calls.adds c.args.calls.now) point (stmt_of c.args.s.now) c.args.s.now.line c.args.s.now.token (stmt_of c.in-For.field-0.value) (stmt_of c.in-For.third.value) (stmt_of c.in-For.stmt.value) (option_map expr_of c.in-For.field-1) (ap (λ (k : StmtKind). stmt_kind_of k c.args.s.now.line c.args.s.now.token) c.in-For.is) (stmt_of c.deref-in-For.result.now) (ap stmt_of d) c.in_ok-flow-in-For.flow (c.in_ok-flow-in-For.ensures.acts loops) (sym c.if-leaves_loop.ensures) (point_in c.args.body.now c.run_inside-in-For.new.locals c.args.outer false loops) (ap (λ (bs : List Binding). record { scope = scope_at c.args.body.now.file bs c.args.outer; shares = false; loops = loops }) c.in_ok-flow-in-For.ensures.same) (stmt_of c.deref-in-For-2.result.now) (ap stmt_of e) (c.run_apart.ensures.acts loops)
 
 pub run_while-returns-in_err-test-clause-acts : goal.run_while-returns-in_err-test-clause-acts
 run_while-returns-in_err-test-clause-acts g t c loops = exit_acts c.from_residual.result c.from_residual.ensures.1 (while_halted (context_at (g.C.Calls.arrays c.args.calls.now) (g.C.Calls.call c.args.calls.now) c.args.body.now) (g.met.C.Calls.adds c.args.calls.now) (point_in c.args.body.now c.args.locals.now c.args.outer false loops) (stmt_of c.args.s.now) c.in_err-test.ensures.decides)
@@ -99,26 +107,31 @@ run_rounds-returns-then-is_jump-clause-acts g t c loops = jumps _ _ _ c.args.flo
 
 pub run_turns-returns-in_err-flow-clause-acts : goal.run_turns-returns-in_err-flow-clause-acts
 run_turns-returns-in_err-flow-clause-acts g t c loops =
+    let context : Context = context_at (g.C.Calls.arrays c.args.calls.now) (g.C.Calls.call c.args.calls.now) c.args.body.now in
+    let point : Point = point_in c.args.body.now c.args.locals.now c.args.outer false loops in
     let up : c.loop-left.left ≡ suc (c.loop-left.left - 1) = omega (arith, c.loop-left-test.true) in
-    let so_far = same_rest (ap (λ (n : ℕ). turns n (condition_of (context_at (g.C.Calls.arrays c.args.calls.now) (g.C.Calls.call c.args.calls.now) c.args.body.now) (scope_in c.args.body.now c.args.locals.now c.args.outer) (test_in (stmt_of c.args.s.now))) (turn_of (context_at (g.C.Calls.arrays c.args.calls.now) (g.C.Calls.call c.args.calls.now) c.args.body.now) (point_in c.args.body.now c.args.locals.now c.args.outer false loops) (stmt_of c.args.s.now))) up) (c.loop-left.invariant.leads loops) in
-    exit_acts c.from_residual.result c.from_residual.ensures.1 (turn_halted (context_at (g.C.Calls.arrays c.args.calls.now) (g.C.Calls.call c.args.calls.now) c.args.body.now) (g.met.C.Calls.adds c.args.calls.now) (c.loop-left.left - 1) (condition_of (context_at (g.C.Calls.arrays c.args.calls.now) (g.C.Calls.call c.args.calls.now) c.args.body.now) (scope_in c.args.body.now c.args.locals.now c.args.outer) (test_in (stmt_of c.args.s.now))) (turn_of (context_at (g.C.Calls.arrays c.args.calls.now) (g.C.Calls.call c.args.calls.now) c.args.body.now) (point_in c.args.body.now c.args.locals.now c.args.outer false loops) (stmt_of c.args.s.now)) (adds_condition (context_at (g.C.Calls.arrays c.args.calls.now) (g.C.Calls.call c.args.calls.now) c.args.body.now) (g.met.C.Calls.adds c.args.calls.now) (scope_in c.args.body.now c.args.locals.now c.args.outer) (test_in (stmt_of c.args.s.now))) (adds_turn (context_at (g.C.Calls.arrays c.args.calls.now) (g.C.Calls.call c.args.calls.now) c.args.body.now) (g.met.C.Calls.adds c.args.calls.now) (point_in c.args.body.now c.args.locals.now c.args.outer false loops) (stmt_of c.args.s.now)) so_far (same_effect (ap (λ (bs : List Binding). turn_of (context_at (g.C.Calls.arrays c.args.calls.now) (g.C.Calls.call c.args.calls.now) c.args.body.now) (record { scope = scope_at c.args.body.now.file bs c.args.outer; shares = false; loops = loops }) (stmt_of c.args.s.now)) c.loop-left.invariant.same) (c.in_err-flow.ensures.acts loops)))
+    exit_acts c.from_residual.result c.from_residual.ensures.1 (next_turn_halted context (g.met.C.Calls.adds c.args.calls.now) point (point_in c.args.body.now c.loop-left.locals c.args.outer false loops) (ap (λ (bs : List Binding). record { scope = scope_at c.args.body.now.file bs c.args.outer; shares = false; loops = loops }) c.loop-left.invariant.same) (stmt_of c.args.s.now) c.loop-left.left up (c.loop-left.invariant.leads loops) (c.in_err-flow.ensures.acts loops))
 
 pub run_turns-returns-then-leaves_loop-clause-acts : goal.run_turns-returns-then-leaves_loop-clause-acts
 run_turns-returns-then-leaves_loop-clause-acts g t c loops =
+    let context : Context = context_at (g.C.Calls.arrays c.args.calls.now) (g.C.Calls.call c.args.calls.now) c.args.body.now in
+    let point : Point = point_in c.args.body.now c.args.locals.now c.args.outer false loops in
     let up : c.loop-left.left ≡ suc (c.loop-left.left - 1) = omega (arith, c.loop-left-test.true) in
-    let so_far = same_rest (ap (λ (n : ℕ). turns n (condition_of (context_at (g.C.Calls.arrays c.args.calls.now) (g.C.Calls.call c.args.calls.now) c.args.body.now) (scope_in c.args.body.now c.args.locals.now c.args.outer) (test_in (stmt_of c.args.s.now))) (turn_of (context_at (g.C.Calls.arrays c.args.calls.now) (g.C.Calls.call c.args.calls.now) c.args.body.now) (point_in c.args.body.now c.args.locals.now c.args.outer false loops) (stmt_of c.args.s.now))) up) (c.loop-left.invariant.leads loops) in
-    same_flow (sym c.behind_loop.ensures) (turn_left (context_at (g.C.Calls.arrays c.args.calls.now) (g.C.Calls.call c.args.calls.now) c.args.body.now) (g.met.C.Calls.adds c.args.calls.now) (c.loop-left.left - 1) (condition_of (context_at (g.C.Calls.arrays c.args.calls.now) (g.C.Calls.call c.args.calls.now) c.args.body.now) (scope_in c.args.body.now c.args.locals.now c.args.outer) (test_in (stmt_of c.args.s.now))) (turn_of (context_at (g.C.Calls.arrays c.args.calls.now) (g.C.Calls.call c.args.calls.now) c.args.body.now) (point_in c.args.body.now c.args.locals.now c.args.outer false loops) (stmt_of c.args.s.now)) (adds_condition (context_at (g.C.Calls.arrays c.args.calls.now) (g.C.Calls.call c.args.calls.now) c.args.body.now) (g.met.C.Calls.adds c.args.calls.now) (scope_in c.args.body.now c.args.locals.now c.args.outer) (test_in (stmt_of c.args.s.now))) (adds_turn (context_at (g.C.Calls.arrays c.args.calls.now) (g.C.Calls.call c.args.calls.now) c.args.body.now) (g.met.C.Calls.adds c.args.calls.now) (point_in c.args.body.now c.args.locals.now c.args.outer false loops) (stmt_of c.args.s.now)) so_far c.in_ok-flow.flow (same_effect (ap (λ (bs : List Binding). turn_of (context_at (g.C.Calls.arrays c.args.calls.now) (g.C.Calls.call c.args.calls.now) c.args.body.now) (record { scope = scope_at c.args.body.now.file bs c.args.outer; shares = false; loops = loops }) (stmt_of c.args.s.now)) c.loop-left.invariant.same) (c.in_ok-flow.ensures.acts loops)) (sym c.if-leaves_loop.ensures))
+    next_turn_left context (g.met.C.Calls.adds c.args.calls.now) point (point_in c.args.body.now c.loop-left.locals c.args.outer false loops) (ap (λ (bs : List Binding). record { scope = scope_at c.args.body.now.file bs c.args.outer; shares = false; loops = loops }) c.loop-left.invariant.same) (stmt_of c.args.s.now) c.loop-left.left up (c.loop-left.invariant.leads loops) c.in_ok-flow.flow c.behind_loop.result c.behind_loop.ensures (c.in_ok-flow.ensures.acts loops) (sym c.if-leaves_loop.ensures)
 
 pub run_turns-returns-in_err-test-clause-acts : goal.run_turns-returns-in_err-test-clause-acts
 run_turns-returns-in_err-test-clause-acts g t c loops =
+    let context : Context = context_at (g.C.Calls.arrays c.args.calls.now) (g.C.Calls.call c.args.calls.now) c.args.body.now in
+    let point : Point = point_in c.args.body.now c.args.locals.now c.args.outer false loops in
     let up : c.loop-left.left ≡ suc (c.loop-left.left - 1) = omega (arith, c.loop-left-test.true) in
-    let so_far = same_rest (ap (λ (n : ℕ). turns n (condition_of (context_at (g.C.Calls.arrays c.args.calls.now) (g.C.Calls.call c.args.calls.now) c.args.body.now) (scope_in c.args.body.now c.args.locals.now c.args.outer) (test_in (stmt_of c.args.s.now))) (turn_of (context_at (g.C.Calls.arrays c.args.calls.now) (g.C.Calls.call c.args.calls.now) c.args.body.now) (point_in c.args.body.now c.args.locals.now c.args.outer false loops) (stmt_of c.args.s.now))) up) (c.loop-left.invariant.leads loops) in
-    exit_acts c.from_residual-in_err-test.result c.from_residual-in_err-test.ensures.1 (test_halted (context_at (g.C.Calls.arrays c.args.calls.now) (g.C.Calls.call c.args.calls.now) c.args.body.now) (g.met.C.Calls.adds c.args.calls.now) (c.loop-left.left - 1) (condition_of (context_at (g.C.Calls.arrays c.args.calls.now) (g.C.Calls.call c.args.calls.now) c.args.body.now) (scope_in c.args.body.now c.args.locals.now c.args.outer) (test_in (stmt_of c.args.s.now))) (turn_of (context_at (g.C.Calls.arrays c.args.calls.now) (g.C.Calls.call c.args.calls.now) c.args.body.now) (point_in c.args.body.now c.args.locals.now c.args.outer false loops) (stmt_of c.args.s.now)) (adds_condition (context_at (g.C.Calls.arrays c.args.calls.now) (g.C.Calls.call c.args.calls.now) c.args.body.now) (g.met.C.Calls.adds c.args.calls.now) (scope_in c.args.body.now c.args.locals.now c.args.outer) (test_in (stmt_of c.args.s.now))) (adds_turn (context_at (g.C.Calls.arrays c.args.calls.now) (g.C.Calls.call c.args.calls.now) c.args.body.now) (g.met.C.Calls.adds c.args.calls.now) (point_in c.args.body.now c.args.locals.now c.args.outer false loops) (stmt_of c.args.s.now)) so_far c.in_ok-flow.flow (same_effect (ap (λ (bs : List Binding). turn_of (context_at (g.C.Calls.arrays c.args.calls.now) (g.C.Calls.call c.args.calls.now) c.args.body.now) (record { scope = scope_at c.args.body.now.file bs c.args.outer; shares = false; loops = loops }) (stmt_of c.args.s.now)) c.loop-left.invariant.same) (c.in_ok-flow.ensures.acts loops)) (sym c.if-leaves_loop.ensures) (same_test (ap (λ (bs : List Binding). condition_of (context_at (g.C.Calls.arrays c.args.calls.now) (g.C.Calls.call c.args.calls.now) c.args.body.now) (scope_at c.args.body.now.file bs c.args.outer) (test_in (stmt_of c.args.s.now))) (c.in_ok-flow.ensures.same ∙ c.loop-left.invariant.same)) c.in_err-test.ensures.decides))
+    exit_acts c.from_residual-in_err-test.result c.from_residual-in_err-test.ensures.1 (next_test_halted context (g.met.C.Calls.adds c.args.calls.now) point (point_in c.args.body.now c.loop-left.locals c.args.outer false loops) (ap (λ (bs : List Binding). record { scope = scope_at c.args.body.now.file bs c.args.outer; shares = false; loops = loops }) c.loop-left.invariant.same) (stmt_of c.args.s.now) c.loop-left.left up (c.loop-left.invariant.leads loops) c.in_ok-flow.flow (c.in_ok-flow.ensures.acts loops) (sym c.if-leaves_loop.ensures) (point_in c.args.body.now c.run_turn.new.locals c.args.outer false loops) (ap (λ (bs : List Binding). record { scope = scope_at c.args.body.now.file bs c.args.outer; shares = false; loops = loops }) (c.in_ok-flow.ensures.same ∙ c.loop-left.invariant.same)) c.in_err-test.ensures.decides)
 
 pub run_turns-returns-clause-acts : goal.run_turns-returns-clause-acts
 run_turns-returns-clause-acts g t c loops =
+    let context : Context = context_at (g.C.Calls.arrays c.args.calls.now) (g.C.Calls.call c.args.calls.now) c.args.body.now in
+    let point : Point = point_in c.args.body.now c.args.locals.now c.args.outer false loops in
     let none : c.loop-left.left ≡ 0 = omega (arith, c.loop-left-test.false) in
-    turns_over (context_at (g.C.Calls.arrays c.args.calls.now) (g.C.Calls.call c.args.calls.now) c.args.body.now) (g.met.C.Calls.adds c.args.calls.now) _ (condition_of (context_at (g.C.Calls.arrays c.args.calls.now) (g.C.Calls.call c.args.calls.now) c.args.body.now) (scope_in c.args.body.now c.args.locals.now c.args.outer) (test_in (stmt_of c.args.s.now))) (turn_of (context_at (g.C.Calls.arrays c.args.calls.now) (g.C.Calls.call c.args.calls.now) c.args.body.now) (point_in c.args.body.now c.args.locals.now c.args.outer false loops) (stmt_of c.args.s.now)) (same_rest (ap (λ (n : ℕ). turns n (condition_of (context_at (g.C.Calls.arrays c.args.calls.now) (g.C.Calls.call c.args.calls.now) c.args.body.now) (scope_in c.args.body.now c.args.locals.now c.args.outer) (test_in (stmt_of c.args.s.now))) (turn_of (context_at (g.C.Calls.arrays c.args.calls.now) (g.C.Calls.call c.args.calls.now) c.args.body.now) (point_in c.args.body.now c.args.locals.now c.args.outer false loops) (stmt_of c.args.s.now))) none) (c.loop-left.invariant.leads loops))
+    no_turn_left context (g.met.C.Calls.adds c.args.calls.now) point (stmt_of c.args.s.now) c.loop-left.left none (c.loop-left.invariant.leads loops)
 
 pub run_all-returns-in_err-flow-clause-acts : goal.run_all-returns-in_err-flow-clause-acts
 run_all-returns-in_err-flow-clause-acts g t c loops =
@@ -146,17 +159,19 @@ run_simd-returns-in_err-flow-in-For-clause-acts g t c loops =
 
 pub run_simd-returns-in_err-end-in-For-clause-acts : goal.run_simd-returns-in_err-end-in-For-clause-acts
 run_simd-returns-in_err-end-in-For-clause-acts g t c loops =
+    let point : Point = point_in c.args.body.now c.args.locals.now (length c.args.locals.now.bindings.items) false loops in
     let mark : c.len-mark.result ≡ length c.args.locals.now.bindings.items = search rules in
     let d : c.deref.result.now ≡ c.in-For.first.value = search rules in
     let y : c.deref-in-For.result.now ≡ c.in-For.first.value = search rules in
-    exit_acts c.from_residual-in_err-end-in-For.result c.from_residual-in_err-end-in-For.ensures.1 (simd_done (context_at (g.C.Calls.arrays c.args.calls.now) (g.C.Calls.call c.args.calls.now) c.args.body.now) (g.met.C.Calls.adds c.args.calls.now) (point_in c.args.body.now c.args.locals.now (length c.args.locals.now.bindings.items) false loops) (stmt_of c.args.s.now) c.args.s.now.line c.args.s.now.token (stmt_of c.in-For.first.value) (stmt_of c.in-For.field-2.value) (stmt_of c.in-For.field-3.value) (option_map expr_of c.in-For.test) (ap (λ (k : StmtKind). stmt_kind_of k c.args.s.now.line c.args.s.now.token) c.in-For.is) (point_in c.args.body.now c.args.locals.now c.len-mark.result true loops) (ap (λ (n : ℕ). point_in c.args.body.now c.args.locals.now n true loops) mark) (stmt_of c.deref.result.now) (ap stmt_of d) c.in_ok-flow-in-For.flow (scope_in c.args.body.now c.run_stmt.new.locals c.len-mark.result) c.in_ok-flow-in-For.ensures.scope (c.in_ok-flow-in-For.ensures.acts loops) (stmt_of c.deref-in-For.result.now) (ap stmt_of y) c.in_ok-flow-in-For-2.flow c.in_ok-flow-in-For-2.ensures.flow (c.in_ok-flow-in-For-2.ensures.acts (point_in c.args.body.now c.args.locals.now (length c.args.locals.now.bindings.items) false loops) (loops + loops_in (stmt_of c.in-For.first.value)) (stmt_of c.in-For.field-3.value)) (c.in_err-end-in-For.ensures.acts (loops + loops_in (stmt_of c.in-For.first.value))))
+    exit_acts c.from_residual-in_err-end-in-For.result c.from_residual-in_err-end-in-For.ensures.1 (simd_done (context_at (g.C.Calls.arrays c.args.calls.now) (g.C.Calls.call c.args.calls.now) c.args.body.now) (g.met.C.Calls.adds c.args.calls.now) point (stmt_of c.args.s.now) c.args.s.now.line c.args.s.now.token (stmt_of c.in-For.first.value) (stmt_of c.in-For.field-2.value) (stmt_of c.in-For.field-3.value) (option_map expr_of c.in-For.test) (ap (λ (k : StmtKind). stmt_kind_of k c.args.s.now.line c.args.s.now.token) c.in-For.is) (point_in c.args.body.now c.args.locals.now c.len-mark.result true loops) (ap (λ (n : ℕ). point_in c.args.body.now c.args.locals.now n true loops) mark) (stmt_of c.deref.result.now) (ap stmt_of d) c.in_ok-flow-in-For.flow (scope_in c.args.body.now c.run_stmt.new.locals c.len-mark.result) c.in_ok-flow-in-For.ensures.scope (c.in_ok-flow-in-For.ensures.acts loops) (stmt_of c.deref-in-For.result.now) (ap stmt_of y) c.in_ok-flow-in-For-2.flow c.in_ok-flow-in-For-2.ensures.flow (c.in_ok-flow-in-For-2.ensures.acts point (loops + loops_in (stmt_of c.in-For.first.value)) (stmt_of c.in-For.field-3.value)) (c.in_err-end-in-For.ensures.acts (loops + loops_in (stmt_of c.in-For.first.value))))
 
 pub run_simd-returns-in_ok-end-in-For-clause-acts : goal.run_simd-returns-in_ok-end-in-For-clause-acts
 run_simd-returns-in_ok-end-in-For-clause-acts g t c loops =
+    let point : Point = point_in c.args.body.now c.args.locals.now (length c.args.locals.now.bindings.items) false loops in
     let mark : c.len-mark.result ≡ length c.args.locals.now.bindings.items = search rules in
     let d : c.deref.result.now ≡ c.in-For.first.value = search rules in
     let y : c.deref-in-For.result.now ≡ c.in-For.first.value = search rules in
-    same_values c.cut.ensures.values (simd_done (context_at (g.C.Calls.arrays c.args.calls.now) (g.C.Calls.call c.args.calls.now) c.args.body.now) (g.met.C.Calls.adds c.args.calls.now) (point_in c.args.body.now c.args.locals.now (length c.args.locals.now.bindings.items) false loops) (stmt_of c.args.s.now) c.args.s.now.line c.args.s.now.token (stmt_of c.in-For.first.value) (stmt_of c.in-For.field-2.value) (stmt_of c.in-For.field-3.value) (option_map expr_of c.in-For.test) (ap (λ (k : StmtKind). stmt_kind_of k c.args.s.now.line c.args.s.now.token) c.in-For.is) (point_in c.args.body.now c.args.locals.now c.len-mark.result true loops) (ap (λ (n : ℕ). point_in c.args.body.now c.args.locals.now n true loops) mark) (stmt_of c.deref.result.now) (ap stmt_of d) c.in_ok-flow-in-For.flow (scope_in c.args.body.now c.run_stmt.new.locals c.len-mark.result) c.in_ok-flow-in-For.ensures.scope (c.in_ok-flow-in-For.ensures.acts loops) (stmt_of c.deref-in-For.result.now) (ap stmt_of y) c.in_ok-flow-in-For-2.flow c.in_ok-flow-in-For-2.ensures.flow (c.in_ok-flow-in-For-2.ensures.acts (point_in c.args.body.now c.args.locals.now (length c.args.locals.now.bindings.items) false loops) (loops + loops_in (stmt_of c.in-For.first.value)) (stmt_of c.in-For.field-3.value)) (c.in_ok-end-in-For.ensures.acts (loops + loops_in (stmt_of c.in-For.first.value))))
+    same_values c.cut.ensures.values (simd_done (context_at (g.C.Calls.arrays c.args.calls.now) (g.C.Calls.call c.args.calls.now) c.args.body.now) (g.met.C.Calls.adds c.args.calls.now) point (stmt_of c.args.s.now) c.args.s.now.line c.args.s.now.token (stmt_of c.in-For.first.value) (stmt_of c.in-For.field-2.value) (stmt_of c.in-For.field-3.value) (option_map expr_of c.in-For.test) (ap (λ (k : StmtKind). stmt_kind_of k c.args.s.now.line c.args.s.now.token) c.in-For.is) (point_in c.args.body.now c.args.locals.now c.len-mark.result true loops) (ap (λ (n : ℕ). point_in c.args.body.now c.args.locals.now n true loops) mark) (stmt_of c.deref.result.now) (ap stmt_of d) c.in_ok-flow-in-For.flow (scope_in c.args.body.now c.run_stmt.new.locals c.len-mark.result) c.in_ok-flow-in-For.ensures.scope (c.in_ok-flow-in-For.ensures.acts loops) (stmt_of c.deref-in-For.result.now) (ap stmt_of y) c.in_ok-flow-in-For-2.flow c.in_ok-flow-in-For-2.ensures.flow (c.in_ok-flow-in-For-2.ensures.acts point (loops + loops_in (stmt_of c.in-For.first.value)) (stmt_of c.in-For.field-3.value)) (c.in_ok-end-in-For.ensures.acts (loops + loops_in (stmt_of c.in-For.first.value))))
 
 pub run_simd-returns-in_ok-end-in-For-clause-same : goal.run_simd-returns-in_ok-end-in-For-clause-same
 run_simd-returns-in_ok-end-in-For-clause-same g t c =
@@ -182,23 +197,33 @@ run_stmt-returns-in-Value-clause-acts g t c loops = same_effect (ap (λ (k : Stm
 
 pub run_stmt-returns-in_err-holds-in-If-clause-acts : goal.run_stmt-returns-in_err-holds-in-If-clause-acts
 run_stmt-returns-in_err-holds-in-If-clause-acts g t c loops =
-    exit_acts c.from_residual.result c.from_residual.ensures.1 (same_effect (ap (λ (k : StmtKind). run (context_at (g.C.Calls.arrays c.args.calls.now) (g.C.Calls.call c.args.calls.now) c.args.body.now) (point_in c.args.body.now c.args.locals.now c.args.outer c.args.shares loops) (stmt_kind_of k c.args.s.now.line c.args.s.now.token)) (sym c.in-If.is)) (if_halted (context_at (g.C.Calls.arrays c.args.calls.now) (g.C.Calls.call c.args.calls.now) c.args.body.now) (g.met.C.Calls.adds c.args.calls.now) (point_in c.args.body.now c.args.locals.now c.args.outer c.args.shares loops) c.args.s.now.line c.args.s.now.token (expr_of c.in-If.e) (stmt_of c.in-If.first.value) (back-StmtKind-If-2 c.in-If.second) c.in_err-holds-in-If.ensures.decides))
+    let context : Context = context_at (g.C.Calls.arrays c.args.calls.now) (g.C.Calls.call c.args.calls.now) c.args.body.now in
+    let point : Point = point_in c.args.body.now c.args.locals.now c.args.outer c.args.shares loops in
+    exit_acts c.from_residual.result c.from_residual.ensures.1 (same_effect (ap (λ (k : StmtKind). run context point (stmt_kind_of k c.args.s.now.line c.args.s.now.token)) (sym c.in-If.is)) (if_halted context (g.met.C.Calls.adds c.args.calls.now) point c.args.s.now.line c.args.s.now.token (expr_of c.in-If.e) (stmt_of c.in-If.first.value) (back-StmtKind-If-2 c.in-If.second) c.in_err-holds-in-If.ensures.decides))
 
 pub run_stmt-returns-in-Some-clause-acts : goal.run_stmt-returns-in-Some-clause-acts
 run_stmt-returns-in-Some-clause-acts g t c loops =
+    let context : Context = context_at (g.C.Calls.arrays c.args.calls.now) (g.C.Calls.call c.args.calls.now) c.args.body.now in
+    let point : Point = point_in c.args.body.now c.args.locals.now c.args.outer c.args.shares loops in
     let d : c.deref-in-Some.result.now ≡ c.in-Some.second.value = search rules in
-    same_effect ((ap (λ (o : Option _). run (context_at (g.C.Calls.arrays c.args.calls.now) (g.C.Calls.call c.args.calls.now) c.args.body.now) (point_in c.args.body.now c.args.locals.now c.args.outer c.args.shares loops) (stmt_kind_of (If c.in-If.e c.in-If.first o) c.args.s.now.line c.args.s.now.token)) (sym c.in-Some.is)) ∙ (ap (λ (k : StmtKind). run (context_at (g.C.Calls.arrays c.args.calls.now) (g.C.Calls.call c.args.calls.now) c.args.body.now) (point_in c.args.body.now c.args.locals.now c.args.outer c.args.shares loops) (stmt_kind_of k c.args.s.now.line c.args.s.now.token)) (sym c.in-If.is))) (second_taken (context_at (g.C.Calls.arrays c.args.calls.now) (g.C.Calls.call c.args.calls.now) c.args.body.now) (g.met.C.Calls.adds c.args.calls.now) (point_in c.args.body.now c.args.locals.now c.args.outer c.args.shares loops) c.args.s.now.line c.args.s.now.token (expr_of c.in-If.e) (stmt_of c.in-If.first.value) (stmt_of c.in-Some.second.value) c.in_ok-holds-in-If.field-0 c.in_ok-holds-in-If.ensures.decides c.if-branch.false
-    (same_effect (ap (λ (s : Stmt). run (context_at (g.C.Calls.arrays c.args.calls.now) (g.C.Calls.call c.args.calls.now) c.args.body.now) (point_in c.args.body.now c.args.locals.now (length c.args.locals.now.bindings.items) false (loops + loops_in (stmt_of c.in-If.first.value))) (stmt_of s)) d) (c.run_inside-in-Some.ensures.acts (loops + loops_in (stmt_of c.in-If.first.value)))))
+    same_effect ((ap (λ (o : Option _). run context point (stmt_kind_of (If c.in-If.e c.in-If.first o) c.args.s.now.line c.args.s.now.token)) (sym c.in-Some.is)) ∙ (ap (λ (k : StmtKind). run context point (stmt_kind_of k c.args.s.now.line c.args.s.now.token)) (sym c.in-If.is))) (second_taken context (g.met.C.Calls.adds c.args.calls.now) point c.args.s.now.line c.args.s.now.token (expr_of c.in-If.e) (stmt_of c.in-If.first.value) (stmt_of c.in-Some.second.value) c.in_ok-holds-in-If.field-0 c.in_ok-holds-in-If.ensures.decides c.if-branch.false
+    (same_effect (ap (λ (s : Stmt). run context (point_in c.args.body.now c.args.locals.now (length c.args.locals.now.bindings.items) false (loops + loops_in (stmt_of c.in-If.first.value))) (stmt_of s)) d) (c.run_inside-in-Some.ensures.acts (loops + loops_in (stmt_of c.in-If.first.value)))))
 
 pub run_stmt-returns-in-None-clause-acts : goal.run_stmt-returns-in-None-clause-acts
 run_stmt-returns-in-None-clause-acts g t c loops =
-    same_effect ((ap (λ (o : Option _). run (context_at (g.C.Calls.arrays c.args.calls.now) (g.C.Calls.call c.args.calls.now) c.args.body.now) (point_in c.args.body.now c.args.locals.now c.args.outer c.args.shares loops) (stmt_kind_of (If c.in-If.e c.in-If.first o) c.args.s.now.line c.args.s.now.token)) (sym c.in-None.is)) ∙ (ap (λ (k : StmtKind). run (context_at (g.C.Calls.arrays c.args.calls.now) (g.C.Calls.call c.args.calls.now) c.args.body.now) (point_in c.args.body.now c.args.locals.now c.args.outer c.args.shares loops) (stmt_kind_of k c.args.s.now.line c.args.s.now.token)) (sym c.in-If.is))) (none_taken (context_at (g.C.Calls.arrays c.args.calls.now) (g.C.Calls.call c.args.calls.now) c.args.body.now) (g.met.C.Calls.adds c.args.calls.now) (point_in c.args.body.now c.args.locals.now c.args.outer c.args.shares loops) c.args.s.now.line c.args.s.now.token (expr_of c.in-If.e) (stmt_of c.in-If.first.value) (stmt_of c.in-If.first.value) c.in_ok-holds-in-If.field-0 c.in_ok-holds-in-If.ensures.decides c.if-branch.false)
+    let context : Context = context_at (g.C.Calls.arrays c.args.calls.now) (g.C.Calls.call c.args.calls.now) c.args.body.now in
+    let point : Point = point_in c.args.body.now c.args.locals.now c.args.outer c.args.shares loops in
+    same_effect ((ap (λ (o : Option _). run context point (stmt_kind_of (If c.in-If.e c.in-If.first o) c.args.s.now.line c.args.s.now.token)) (sym c.in-None.is)) ∙ (ap (λ (k : StmtKind). run context point (stmt_kind_of k c.args.s.now.line c.args.s.now.token)) (sym c.in-If.is))) (none_taken context (g.met.C.Calls.adds c.args.calls.now) point c.args.s.now.line c.args.s.now.token (expr_of c.in-If.e) (stmt_of c.in-If.first.value) (stmt_of c.in-If.first.value) c.in_ok-holds-in-If.field-0 c.in_ok-holds-in-If.ensures.decides c.if-branch.false)
 
 pub run_stmt-returns-in-While-clause-acts : goal.run_stmt-returns-in-While-clause-acts
-run_stmt-returns-in-While-clause-acts g t c loops = same_effect (ap (λ (k : StmtKind). repeat c.args.body.now.setting.turns (condition_of (context_at (g.C.Calls.arrays c.args.calls.now) (g.C.Calls.call c.args.calls.now) c.args.body.now) (scope_in c.args.body.now c.args.locals.now c.args.outer) (test_in (stmt_kind_of k c.args.s.now.line c.args.s.now.token))) (turn_of (context_at (g.C.Calls.arrays c.args.calls.now) (g.C.Calls.call c.args.calls.now) c.args.body.now) (point_in c.args.body.now c.args.locals.now c.args.outer false loops) (stmt_kind_of k c.args.s.now.line c.args.s.now.token))) c.in-While.is ∙ (ap (λ (k : StmtKind). run (context_at (g.C.Calls.arrays c.args.calls.now) (g.C.Calls.call c.args.calls.now) c.args.body.now) (point_in c.args.body.now c.args.locals.now c.args.outer c.args.shares loops) (stmt_kind_of k c.args.s.now.line c.args.s.now.token)) (sym c.in-While.is))) (c.run_while.ensures.acts loops)
+run_stmt-returns-in-While-clause-acts g t c loops =
+    let context : Context = context_at (g.C.Calls.arrays c.args.calls.now) (g.C.Calls.call c.args.calls.now) c.args.body.now in
+    same_effect (ap (λ (k : StmtKind). repeat c.args.body.now.setting.turns (condition_of context (scope_in c.args.body.now c.args.locals.now c.args.outer) (test_in (stmt_kind_of k c.args.s.now.line c.args.s.now.token))) (turn_of context (point_in c.args.body.now c.args.locals.now c.args.outer false loops) (stmt_kind_of k c.args.s.now.line c.args.s.now.token))) c.in-While.is ∙ (ap (λ (k : StmtKind). run context (point_in c.args.body.now c.args.locals.now c.args.outer c.args.shares loops) (stmt_kind_of k c.args.s.now.line c.args.s.now.token)) (sym c.in-While.is))) (c.run_while.ensures.acts loops)
 
 pub run_stmt-returns-in-Do-clause-acts : goal.run_stmt-returns-in-Do-clause-acts
-run_stmt-returns-in-Do-clause-acts g t c loops = same_effect (ap (λ (k : StmtKind). turns c.args.body.now.setting.turns (condition_of (context_at (g.C.Calls.arrays c.args.calls.now) (g.C.Calls.call c.args.calls.now) c.args.body.now) (scope_in c.args.body.now c.args.locals.now c.args.outer) (test_in (stmt_kind_of k c.args.s.now.line c.args.s.now.token))) (turn_of (context_at (g.C.Calls.arrays c.args.calls.now) (g.C.Calls.call c.args.calls.now) c.args.body.now) (point_in c.args.body.now c.args.locals.now c.args.outer false loops) (stmt_kind_of k c.args.s.now.line c.args.s.now.token))) c.in-Do.is ∙ (ap (λ (k : StmtKind). run (context_at (g.C.Calls.arrays c.args.calls.now) (g.C.Calls.call c.args.calls.now) c.args.body.now) (point_in c.args.body.now c.args.locals.now c.args.outer c.args.shares loops) (stmt_kind_of k c.args.s.now.line c.args.s.now.token)) (sym c.in-Do.is))) (c.run_turns.ensures.acts loops)
+run_stmt-returns-in-Do-clause-acts g t c loops =
+    let context : Context = context_at (g.C.Calls.arrays c.args.calls.now) (g.C.Calls.call c.args.calls.now) c.args.body.now in
+    same_effect (ap (λ (k : StmtKind). turns c.args.body.now.setting.turns (condition_of context (scope_in c.args.body.now c.args.locals.now c.args.outer) (test_in (stmt_kind_of k c.args.s.now.line c.args.s.now.token))) (turn_of context (point_in c.args.body.now c.args.locals.now c.args.outer false loops) (stmt_kind_of k c.args.s.now.line c.args.s.now.token))) c.in-Do.is ∙ (ap (λ (k : StmtKind). run context (point_in c.args.body.now c.args.locals.now c.args.outer c.args.shares loops) (stmt_kind_of k c.args.s.now.line c.args.s.now.token)) (sym c.in-Do.is))) (c.run_turns.ensures.acts loops)
 
 pub run_stmt-returns-in_err-flow-in-For-clause-acts : goal.run_stmt-returns-in_err-flow-in-For-clause-acts
 run_stmt-returns-in_err-flow-in-For-clause-acts g t c loops =
@@ -239,8 +264,9 @@ run_stmt-returns-in-Return-clause-acts g t c loops = same_effect (ap (λ (k : St
 
 pub run_stmt-returns-in-Simd-clause-acts : goal.run_stmt-returns-in-Simd-clause-acts
 run_stmt-returns-in-Simd-clause-acts g t c loops =
+    let context : Context = context_at (g.C.Calls.arrays c.args.calls.now) (g.C.Calls.call c.args.calls.now) c.args.body.now in
     let d : c.deref-in-Simd.result.now ≡ c.in-Simd.s.value = search rules in
-    same_effect (ap (λ (s : Stmt). run_simd (context_at (g.C.Calls.arrays c.args.calls.now) (g.C.Calls.call c.args.calls.now) c.args.body.now) (point_in c.args.body.now c.args.locals.now (length c.args.locals.now.bindings.items) false (loops + 1)) (stmt_of s)) d ∙ (ap (λ (k : StmtKind). run (context_at (g.C.Calls.arrays c.args.calls.now) (g.C.Calls.call c.args.calls.now) c.args.body.now) (point_in c.args.body.now c.args.locals.now c.args.outer c.args.shares loops) (stmt_kind_of k c.args.s.now.line c.args.s.now.token)) (sym c.in-Simd.is))) (c.run_simd.ensures.acts (loops + 1))
+    same_effect (ap (λ (s : Stmt). run_simd context (point_in c.args.body.now c.args.locals.now (length c.args.locals.now.bindings.items) false (loops + 1)) (stmt_of s)) d ∙ (ap (λ (k : StmtKind). run context (point_in c.args.body.now c.args.locals.now c.args.outer c.args.shares loops) (stmt_kind_of k c.args.s.now.line c.args.s.now.token)) (sym c.in-Simd.is))) (c.run_simd.ensures.acts (loops + 1))
 
 pub run_stmt-returns-in-Local-clause-scope : goal.run_stmt-returns-in-Local-clause-scope
 run_stmt-returns-in-Local-clause-scope g t c = IfOk-weaker c.run_local.result _ _ (λ f h e. ap (λ (bs : List Binding). scope_at c.args.body.now.file bs c.args.outer) h ∙ ap (λ (k : StmtKind). after c.args.shares (scope_in c.args.body.now c.args.locals.now c.args.outer) (stmt_kind_of k c.args.s.now.line c.args.s.now.token)) (sym c.in-Local.is)) c.run_local.ensures.bindings
@@ -275,9 +301,10 @@ run_turns-loop-left-preserved g t c = record {
   held = c.in_ok-flow.ensures.held;
   same = c.in_ok-flow.ensures.same ∙ c.loop-left.invariant.same;
   leads = λ loops.
+      let context : Context = context_at (g.C.Calls.arrays c.args.calls.now) (g.C.Calls.call c.args.calls.now) c.args.body.now in
+      let point : Point = point_in c.args.body.now c.args.locals.now c.args.outer false loops in
       let up : c.loop-left.left ≡ suc (c.loop-left.left - 1) = omega (arith, c.loop-left-test.true) in
-      let so_far = same_rest (ap (λ (n : ℕ). turns n (condition_of (context_at (g.C.Calls.arrays c.args.calls.now) (g.C.Calls.call c.args.calls.now) c.args.body.now) (scope_in c.args.body.now c.args.locals.now c.args.outer) (test_in (stmt_of c.args.s.now))) (turn_of (context_at (g.C.Calls.arrays c.args.calls.now) (g.C.Calls.call c.args.calls.now) c.args.body.now) (point_in c.args.body.now c.args.locals.now c.args.outer false loops) (stmt_of c.args.s.now))) up) (c.loop-left.invariant.leads loops) in
-      test_on (context_at (g.C.Calls.arrays c.args.calls.now) (g.C.Calls.call c.args.calls.now) c.args.body.now) (g.met.C.Calls.adds c.args.calls.now) (c.loop-left.left - 1) (condition_of (context_at (g.C.Calls.arrays c.args.calls.now) (g.C.Calls.call c.args.calls.now) c.args.body.now) (scope_in c.args.body.now c.args.locals.now c.args.outer) (test_in (stmt_of c.args.s.now))) (turn_of (context_at (g.C.Calls.arrays c.args.calls.now) (g.C.Calls.call c.args.calls.now) c.args.body.now) (point_in c.args.body.now c.args.locals.now c.args.outer false loops) (stmt_of c.args.s.now)) (adds_condition (context_at (g.C.Calls.arrays c.args.calls.now) (g.C.Calls.call c.args.calls.now) c.args.body.now) (g.met.C.Calls.adds c.args.calls.now) (scope_in c.args.body.now c.args.locals.now c.args.outer) (test_in (stmt_of c.args.s.now))) (adds_turn (context_at (g.C.Calls.arrays c.args.calls.now) (g.C.Calls.call c.args.calls.now) c.args.body.now) (g.met.C.Calls.adds c.args.calls.now) (point_in c.args.body.now c.args.locals.now c.args.outer false loops) (stmt_of c.args.s.now)) so_far c.in_ok-flow.flow (same_effect (ap (λ (bs : List Binding). turn_of (context_at (g.C.Calls.arrays c.args.calls.now) (g.C.Calls.call c.args.calls.now) c.args.body.now) (record { scope = scope_at c.args.body.now.file bs c.args.outer; shares = false; loops = loops }) (stmt_of c.args.s.now)) c.loop-left.invariant.same) (c.in_ok-flow.ensures.acts loops)) (sym c.if-leaves_loop.ensures) c.in_ok-test.field-0 (same_test (ap (λ (bs : List Binding). condition_of (context_at (g.C.Calls.arrays c.args.calls.now) (g.C.Calls.call c.args.calls.now) c.args.body.now) (scope_at c.args.body.now.file bs c.args.outer) (test_in (stmt_of c.args.s.now))) (c.in_ok-flow.ensures.same ∙ c.loop-left.invariant.same)) c.in_ok-test.ensures.decides) (search rules);
+      next_test_on context (g.met.C.Calls.adds c.args.calls.now) point (point_in c.args.body.now c.loop-left.locals c.args.outer false loops) (ap (λ (bs : List Binding). record { scope = scope_at c.args.body.now.file bs c.args.outer; shares = false; loops = loops }) c.loop-left.invariant.same) (stmt_of c.args.s.now) c.loop-left.left up (c.loop-left.invariant.leads loops) c.in_ok-flow.flow (c.in_ok-flow.ensures.acts loops) (sym c.if-leaves_loop.ensures) (point_in c.args.body.now c.run_turn.new.locals c.args.outer false loops) (ap (λ (bs : List Binding). record { scope = scope_at c.args.body.now.file bs c.args.outer; shares = false; loops = loops }) (c.in_ok-flow.ensures.same ∙ c.loop-left.invariant.same)) c.in_ok-test.field-0 c.in_ok-test.ensures.decides (search rules);
 }
 
 pub run_while-returns-then-branch-clause-acts : goal.run_while-returns-then-branch-clause-acts
@@ -287,26 +314,32 @@ pub run_while-returns-clause-acts : goal.run_while-returns-clause-acts
 run_while-returns-clause-acts g t c loops = while_off (context_at (g.C.Calls.arrays c.args.calls.now) (g.C.Calls.call c.args.calls.now) c.args.body.now) (g.met.C.Calls.adds c.args.calls.now) (point_in c.args.body.now c.args.locals.now c.args.outer false loops) (stmt_of c.args.s.now) c.in_ok-test.field-0 c.in_ok-test.ensures.decides c.if-branch.false
 
 pub run_rounds-returns-clause-acts : goal.run_rounds-returns-clause-acts
-run_rounds-returns-clause-acts g t c loops = same_effect (sym (goes_on (repeat c.args.body.now.setting.turns (condition_of (context_at (g.C.Calls.arrays c.args.calls.now) (g.C.Calls.call c.args.calls.now) c.args.body.now) (scope_in c.args.body.now c.args.locals.now c.args.outer) (test_in (stmt_of c.args.s.now))) (turn_of (context_at (g.C.Calls.arrays c.args.calls.now) (g.C.Calls.call c.args.calls.now) c.args.body.now) (point_in c.args.body.now c.args.locals.now c.args.outer false loops) (stmt_of c.args.s.now))) c.args.flow (sym c.if-is_jump.ensures))) (c.run_while.ensures.acts loops)
+run_rounds-returns-clause-acts g t c loops =
+    let context : Context = context_at (g.C.Calls.arrays c.args.calls.now) (g.C.Calls.call c.args.calls.now) c.args.body.now in
+    same_effect (sym (goes_on (repeat c.args.body.now.setting.turns (condition_of context (scope_in c.args.body.now c.args.locals.now c.args.outer) (test_in (stmt_of c.args.s.now))) (turn_of context (point_in c.args.body.now c.args.locals.now c.args.outer false loops) (stmt_of c.args.s.now))) c.args.flow (sym c.if-is_jump.ensures))) (c.run_while.ensures.acts loops)
 
 pub run_turns-returns-then-not-branch-clause-acts : goal.run_turns-returns-then-not-branch-clause-acts
 run_turns-returns-then-not-branch-clause-acts g t c loops =
+    let context : Context = context_at (g.C.Calls.arrays c.args.calls.now) (g.C.Calls.call c.args.calls.now) c.args.body.now in
+    let point : Point = point_in c.args.body.now c.args.locals.now c.args.outer false loops in
     let up : c.loop-left.left ≡ suc (c.loop-left.left - 1) = omega (arith, c.loop-left-test.true) in
-    let so_far = same_rest (ap (λ (n : ℕ). turns n (condition_of (context_at (g.C.Calls.arrays c.args.calls.now) (g.C.Calls.call c.args.calls.now) c.args.body.now) (scope_in c.args.body.now c.args.locals.now c.args.outer) (test_in (stmt_of c.args.s.now))) (turn_of (context_at (g.C.Calls.arrays c.args.calls.now) (g.C.Calls.call c.args.calls.now) c.args.body.now) (point_in c.args.body.now c.args.locals.now c.args.outer false loops) (stmt_of c.args.s.now))) up) (c.loop-left.invariant.leads loops) in
-    test_off (context_at (g.C.Calls.arrays c.args.calls.now) (g.C.Calls.call c.args.calls.now) c.args.body.now) (g.met.C.Calls.adds c.args.calls.now) (c.loop-left.left - 1) (condition_of (context_at (g.C.Calls.arrays c.args.calls.now) (g.C.Calls.call c.args.calls.now) c.args.body.now) (scope_in c.args.body.now c.args.locals.now c.args.outer) (test_in (stmt_of c.args.s.now))) (turn_of (context_at (g.C.Calls.arrays c.args.calls.now) (g.C.Calls.call c.args.calls.now) c.args.body.now) (point_in c.args.body.now c.args.locals.now c.args.outer false loops) (stmt_of c.args.s.now)) (adds_condition (context_at (g.C.Calls.arrays c.args.calls.now) (g.C.Calls.call c.args.calls.now) c.args.body.now) (g.met.C.Calls.adds c.args.calls.now) (scope_in c.args.body.now c.args.locals.now c.args.outer) (test_in (stmt_of c.args.s.now))) (adds_turn (context_at (g.C.Calls.arrays c.args.calls.now) (g.C.Calls.call c.args.calls.now) c.args.body.now) (g.met.C.Calls.adds c.args.calls.now) (point_in c.args.body.now c.args.locals.now c.args.outer false loops) (stmt_of c.args.s.now)) so_far c.in_ok-flow.flow (same_effect (ap (λ (bs : List Binding). turn_of (context_at (g.C.Calls.arrays c.args.calls.now) (g.C.Calls.call c.args.calls.now) c.args.body.now) (record { scope = scope_at c.args.body.now.file bs c.args.outer; shares = false; loops = loops }) (stmt_of c.args.s.now)) c.loop-left.invariant.same) (c.in_ok-flow.ensures.acts loops)) (sym c.if-leaves_loop.ensures) c.in_ok-test.field-0 (same_test (ap (λ (bs : List Binding). condition_of (context_at (g.C.Calls.arrays c.args.calls.now) (g.C.Calls.call c.args.calls.now) c.args.body.now) (scope_at c.args.body.now.file bs c.args.outer) (test_in (stmt_of c.args.s.now))) (c.in_ok-flow.ensures.same ∙ c.loop-left.invariant.same)) c.in_ok-test.ensures.decides) (search rules)
+    next_test_off context (g.met.C.Calls.adds c.args.calls.now) point (point_in c.args.body.now c.loop-left.locals c.args.outer false loops) (ap (λ (bs : List Binding). record { scope = scope_at c.args.body.now.file bs c.args.outer; shares = false; loops = loops }) c.loop-left.invariant.same) (stmt_of c.args.s.now) c.loop-left.left up (c.loop-left.invariant.leads loops) c.in_ok-flow.flow (c.in_ok-flow.ensures.acts loops) (sym c.if-leaves_loop.ensures) (point_in c.args.body.now c.run_turn.new.locals c.args.outer false loops) (ap (λ (bs : List Binding). record { scope = scope_at c.args.body.now.file bs c.args.outer; shares = false; loops = loops }) (c.in_ok-flow.ensures.same ∙ c.loop-left.invariant.same)) c.in_ok-test.field-0 c.in_ok-test.ensures.decides (search rules)
 
 pub run_stmt-returns-then-branch-clause-acts : goal.run_stmt-returns-then-branch-clause-acts
 run_stmt-returns-then-branch-clause-acts g t c loops =
+    let context : Context = context_at (g.C.Calls.arrays c.args.calls.now) (g.C.Calls.call c.args.calls.now) c.args.body.now in
+    let point : Point = point_in c.args.body.now c.args.locals.now c.args.outer c.args.shares loops in
     let d : c.deref-then-branch.result.now ≡ c.in-If.first.value = search rules in
-    same_effect (ap (λ (k : StmtKind). run (context_at (g.C.Calls.arrays c.args.calls.now) (g.C.Calls.call c.args.calls.now) c.args.body.now) (point_in c.args.body.now c.args.locals.now c.args.outer c.args.shares loops) (stmt_kind_of k c.args.s.now.line c.args.s.now.token)) (sym c.in-If.is)) (if_taken (context_at (g.C.Calls.arrays c.args.calls.now) (g.C.Calls.call c.args.calls.now) c.args.body.now) (g.met.C.Calls.adds c.args.calls.now) (point_in c.args.body.now c.args.locals.now c.args.outer c.args.shares loops) c.args.s.now.line c.args.s.now.token (expr_of c.in-If.e) (stmt_of c.in-If.first.value) (back-StmtKind-If-2 c.in-If.second) c.in_ok-holds-in-If.field-0 c.in_ok-holds-in-If.ensures.decides c.if-branch.true
-    (same_effect (ap (λ (s : Stmt). run (context_at (g.C.Calls.arrays c.args.calls.now) (g.C.Calls.call c.args.calls.now) c.args.body.now) (point_in c.args.body.now c.args.locals.now (length c.args.locals.now.bindings.items) false loops) (stmt_of s)) d) (c.run_inside.ensures.acts loops)))
+    same_effect (ap (λ (k : StmtKind). run context point (stmt_kind_of k c.args.s.now.line c.args.s.now.token)) (sym c.in-If.is)) (if_taken context (g.met.C.Calls.adds c.args.calls.now) point c.args.s.now.line c.args.s.now.token (expr_of c.in-If.e) (stmt_of c.in-If.first.value) (back-StmtKind-If-2 c.in-If.second) c.in_ok-holds-in-If.field-0 c.in_ok-holds-in-If.ensures.decides c.if-branch.true
+    (same_effect (ap (λ (s : Stmt). run context (point_in c.args.body.now c.args.locals.now (length c.args.locals.now.bindings.items) false loops) (stmt_of s)) d) (c.run_inside.ensures.acts loops)))
 
 pub run_simd-returns-in_err-flow-in-For-2-clause-acts : goal.run_simd-returns-in_err-flow-in-For-2-clause-acts
 run_simd-returns-in_err-flow-in-For-2-clause-acts g t c loops =
+    let point : Point = point_in c.args.body.now c.args.locals.now (length c.args.locals.now.bindings.items) false loops in
     let mark : c.len-mark.result ≡ length c.args.locals.now.bindings.items = search rules in
     let d : c.deref.result.now ≡ c.in-For.first.value = search rules in
     let y : c.deref-in-For.result.now ≡ c.in-For.first.value = search rules in
-    exit_acts c.from_residual-in_err-flow-in-For-2.result c.from_residual-in_err-flow-in-For-2.ensures.1 (bound_halted (context_at (g.C.Calls.arrays c.args.calls.now) (g.C.Calls.call c.args.calls.now) c.args.body.now) (g.met.C.Calls.adds c.args.calls.now) (point_in c.args.body.now c.args.locals.now (length c.args.locals.now.bindings.items) false loops) (stmt_of c.args.s.now) c.args.s.now.line c.args.s.now.token (stmt_of c.in-For.first.value) (stmt_of c.in-For.field-2.value) (stmt_of c.in-For.field-3.value) (option_map expr_of c.in-For.test) (ap (λ (k : StmtKind). stmt_kind_of k c.args.s.now.line c.args.s.now.token) c.in-For.is) (point_in c.args.body.now c.args.locals.now c.len-mark.result true loops) (ap (λ (n : ℕ). point_in c.args.body.now c.args.locals.now n true loops) mark) (stmt_of c.deref.result.now) (ap stmt_of d) c.in_ok-flow-in-For.flow (scope_in c.args.body.now c.run_stmt.new.locals c.len-mark.result) c.in_ok-flow-in-For.ensures.scope (c.in_ok-flow-in-For.ensures.acts loops) (stmt_of c.deref-in-For.result.now) (ap stmt_of y) (c.in_err-flow-in-For-2.ensures.acts (point_in c.args.body.now c.args.locals.now (length c.args.locals.now.bindings.items) false loops) (loops + loops_in (stmt_of c.in-For.first.value)) (stmt_of c.in-For.field-3.value)))
+    exit_acts c.from_residual-in_err-flow-in-For-2.result c.from_residual-in_err-flow-in-For-2.ensures.1 (bound_halted (context_at (g.C.Calls.arrays c.args.calls.now) (g.C.Calls.call c.args.calls.now) c.args.body.now) (g.met.C.Calls.adds c.args.calls.now) point (stmt_of c.args.s.now) c.args.s.now.line c.args.s.now.token (stmt_of c.in-For.first.value) (stmt_of c.in-For.field-2.value) (stmt_of c.in-For.field-3.value) (option_map expr_of c.in-For.test) (ap (λ (k : StmtKind). stmt_kind_of k c.args.s.now.line c.args.s.now.token) c.in-For.is) (point_in c.args.body.now c.args.locals.now c.len-mark.result true loops) (ap (λ (n : ℕ). point_in c.args.body.now c.args.locals.now n true loops) mark) (stmt_of c.deref.result.now) (ap stmt_of d) c.in_ok-flow-in-For.flow (scope_in c.args.body.now c.run_stmt.new.locals c.len-mark.result) c.in_ok-flow-in-For.ensures.scope (c.in_ok-flow-in-For.ensures.acts loops) (stmt_of c.deref-in-For.result.now) (ap stmt_of y) (c.in_err-flow-in-For-2.ensures.acts point (loops + loops_in (stmt_of c.in-For.first.value)) (stmt_of c.in-For.field-3.value)))
 
 pub run_rounds-returns-then-is_jump-clause-sound : goal.run_rounds-returns-then-is_jump-clause-sound
 run_rounds-returns-then-is_jump-clause-sound g t c =
