@@ -1,12 +1,11 @@
 -- The tables are those of an image.
-use Rattle.std.proofs.Common.{arith, rules, sym, ◌≡◌, ℕ, zero, suc, ◌+◌, ◌*◌, ◌==◌, ◌<◌, ◌≤◌, max, Bool, true, false, not, ◌&&◌, ◌||◌, cond, List, [], ◌∷◌, ◌++◌, length, map, take, Option, Some, None, refl, subst, ap, ◌∙◌}
-use Rattle.std.specs.Prelude.{nat_le, nat_lt, slice_get}
+use Rattle.std.proofs.Common.{arith, rules, ◌≡◌, ℕ, zero, suc, ◌+◌, ◌*◌, ◌==◌, ◌<◌, ◌≤◌, max, Bool, true, false, ◌&&◌, ◌||◌, List, [], ◌∷◌, ◌++◌, length, map, take, None, refl, ap, ◌∙◌}
+use Rattle.std.specs.Prelude.{nat_le, nat_lt}
 use Rattle.std.specs.List.{list_all}
 use Rattle.std.proofs.lemmas.Nat.{mul-le}
 use Rattle.std.proofs.lemmas.Bool.Decides.{nat_tests}
 use Rattle.std.proofs.lemmas.List.{length-map, length-take-le}
 use Rattle.vk_types.specs.declared.types.Ty.{Ty}
-use Rattle.vk_kinds.specs.declared.heads.CType.{CType}
 use Rattle.vk_kinds.specs.declared.heads.CType.TheVariants.{Int}
 use Rattle.vk_kinds.specs.declared.kinds.Param.{Param}
 use Rattle.vk_kinds.specs.Types.{ctype_number}
@@ -19,12 +18,11 @@ use Rattle.vk_object.specs.declared.tables.Entry.{Entry}
 use Rattle.vk_code.specs.Tests.{all_good, pairs}
 use Rattle.vk_code.specs.Valid.{Environment, body_verdicts, has_good_counts, has_good_registers, is_good_head, is_good_loop, is_good_slot, is_integer, is_result, verdicts}
 use Rattle.vk_construct.proofs.Adding.{is_inside}
-use Rattle.vk_object.specs.Images.{cells_of, chain_cells, entry_numbers, has_body, has_lanes, is_call, is_code, is_entry, is_function_code, is_image, is_linked, is_loop, is_row, is_within, names_of, param_types, result_of, suits}
-use Rattle.vk_object.specs.Parameters.{are_kinds, are_typed, is_param, is_param_at}
+use Rattle.vk_object.specs.Images.{cells_of, has_body, is_call, is_code, is_function_code, is_image, is_linked, is_loop, is_row, names_of, param_types, result_of, suits}
+use Rattle.vk_object.specs.Parameters.{is_param, is_param_at}
 use Rattle.vk_object.specs.Tables.{EntryLists, Tables, array_list_of, entry_list_of}
-use Rattle.vk_flat.specs.Values.{is_value}
 use Rattle.vk_flat_functions.specs.Returns.{IsLaneCode}
-use Rattle.vk_one_image.specs.Tables.{entry_of, kind_of, params_of, tables_of, vectors}
+use Rattle.vk_one_image.specs.Tables.{entry_of, tables_of, vectors}
 
 both : (a b : Bool) → a ≡ true → b ≡ true → (a && b) ≡ true
 both true b h i = i

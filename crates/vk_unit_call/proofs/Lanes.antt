@@ -1,12 +1,12 @@
 -- Each lane has what the scalar call gives.
-use Rattle.std.proofs.Common.{arith, rules, sym, ◌≡◌, ℕ, zero, suc, ◌+◌, ◌*◌, ◌<◌, ◌≤◌, Bool, true, false, ◌&&◌, cond, List, [], ◌∷◌, ◌++◌, length, map, get_or, Option, Some, None, is_some, refl, subst, ap, ap₂, ◌∙◌, true≢false}
+use Rattle.std.proofs.Common.{rules, sym, ◌≡◌, ℕ, zero, suc, ◌<◌, Bool, true, false, ◌&&◌, cond, List, [], ◌∷◌, ◌++◌, map, Option, Some, None, is_some, refl, subst, ap, ap₂, ◌∙◌, true≢false}
 use Rattle.std.specs.List.{AllByRecursion, filter_map, list_all}
 use Rattle.std.specs.Option.{option_and_then, option_or}
 use Rattle.std.specs.Str.{bytes_eq}
 use Rattle.std.proofs.lemmas.Option.{none-some}
 use Rattle.vk_types.specs.declared.types.Ty.{Ty}
 use Rattle.vk_types.specs.declared.types.Stop.{Stop}
-use Rattle.vk_types.specs.Numbers.{IsCanonical, IsInRange, number_of, word_of, wrap_number}
+use Rattle.vk_types.specs.Numbers.{IsInRange, wrap_number}
 use Rattle.vk_numbers.proofs.Numbers.{canonical_word, number_of-word, wrap_in_range}
 use Rattle.vk_kinds.specs.declared.heads.CType.{CType}
 use Rattle.vk_kinds.specs.declared.heads.CType.TheVariants.{Int, Ptr, Void}
@@ -15,16 +15,16 @@ use Rattle.vk_kinds.specs.Types.{integer_of}
 use Rattle.vk_ast.specs.declared.items.ParamDecl.{ParamDecl}
 use Rattle.vk_ast.specs.Statements.{StmtTree, StmtTrees, block, more_stmts, no_stmts, return_value}
 use Rattle.vk_ast.specs.Tree.{Tree}
-use Rattle.vk_ast.specs.Units.{FunctionTree, ItemTree, function}
+use Rattle.vk_ast.specs.Units.{FunctionTree, function}
 use Rattle.vk_rules_book.specs.Rules.{Subject}
 use Rattle.vk_rules_book.specs.Scopes.{text_of, types_of}
 use Rattle.vk_meaning.specs.World.{World, first_memory}
-use Rattle.vk_meaning.specs.Data.{Action, Datum, Value, got, halts, nothing, number, number_in, pointer, with_value}
+use Rattle.vk_meaning.specs.Data.{Action, Value, got, halts, nothing, number, number_in, pointer, with_value}
 use Rattle.vk_meaning.specs.Expressions.{converted, value_of}
 use Rattle.vk_meaning.specs.Programs.{Definition, array_defined, arrays_of, defined_behind, definition_of, in_order, with_body}
 use Rattle.vk_meaning.specs.Types.{is_written_type, type_at}
 use Rattle.vk_meaning.specs.Meaning.{first_variables, means}
-use Rattle.vk_meaning.specs.Lanes.{AreApart, AreTyped, Words, arguments_of}
+use Rattle.vk_meaning.specs.Lanes.{AreTyped, Words, arguments_of}
 use Rattle.vk_meaning.specs.LaneWise.{IsResult}
 use Rattle.vk_code.specs.Listing.{Listing}
 use Rattle.vk_object.specs.Machine.{Site, enters, entry_at, site_at}

@@ -1,6 +1,6 @@
 -- The machine's call is the run of the code.
-use Rattle.std.proofs.Common.{arith, rules, sym, ◌≡◌, ℕ, zero, suc, ◌+◌, ◌*◌, ◌^◌, ◌==◌, ◌<◌, ◌≤◌, Bool, true, false, ◌&&◌, cond, List, [], ◌∷◌, length, take, drop, get_or, Some, None, ℤ, ◌≤ℤ◌, int_le, refl, subst, ap, ap₂, ◌∙◌, replicate, ◌-◌, ◌++◌, is_some, is_none}
-use Rattle.std.specs.Prelude.{nat_le, slice_index_or}
+use Rattle.std.proofs.Common.{arith, rules, sym, ◌≡◌, ℕ, zero, suc, ◌+◌, ◌*◌, ◌==◌, ◌<◌, ◌≤◌, Bool, true, false, ◌&&◌, cond, List, [], ◌∷◌, length, take, drop, ℤ, ◌≤ℤ◌, int_le, refl, subst, ap, ap₂, ◌∙◌, replicate, ◌-◌, ◌++◌, is_some, is_none}
+use Rattle.std.specs.Prelude.{nat_le}
 use Rattle.std.specs.List.{list_all}
 use Rattle.std.proofs.Math.Seq.{take-append_seam}
 use Rattle.std.proofs.lemmas.Int.{ints}
@@ -29,7 +29,7 @@ use Rattle.vk_lane.specs.Runs.{results_of}
 use Rattle.vk_direct.specs.Calls.{given_words}
 use Rattle.vk_direct.specs.Taking.{are_words_of, is_word_of}
 use Rattle.vk_machine.specs.declared.machine.Machine.{Machine}
-use Rattle.vk_machine.specs.Machines.{IsFresh, called, cells, tables}
+use Rattle.vk_machine.specs.Machines.{IsFresh, called, tables}
 use Rattle.vk_arguments.specs.Arguments.{passed}
 use Rattle.vk_flat_functions.specs.Returns.{HasParams}
 use Rattle.vk_one_image.specs.Tables.{tables_of}

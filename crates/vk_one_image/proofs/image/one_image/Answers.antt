@@ -1,8 +1,6 @@
 -- The tables are those of an image.
 use Rattle.std.proofs.Common.{ap, ◌∙◌, ◌++◌, ◌∷◌, []}
-use Rattle.vk_code.specs.declared.code.Code.{Code}
 use Rattle.vk_code.specs.Listing.{listing_of}
-use Rattle.vk_object.specs.declared.tables.Entry.{Entry}
 use Rattle.vk_one_image.proofs.Valid.{made, made_valid}
 use Rattle.vk_one_image.proofs.image.one_image.Goals as goal
 

@@ -1,5 +1,5 @@
 -- One parameter more.
-use Rattle.std.proofs.Common.{arith, ap, sym, ◌∙◌, ◌++◌, ◌+◌}
+use Rattle.std.proofs.Common.{ap, sym, ◌∙◌, ◌++◌, ◌+◌}
 use Rattle.vk_one_image.specs.Tables.{vectors}
 use Rattle.vk_one_image.proofs.Valid.{one_more}
 use Rattle.vk_one_image.proofs.params.vectors.Goals as goal

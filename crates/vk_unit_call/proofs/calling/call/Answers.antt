@@ -1,12 +1,10 @@
 -- Each lane has what the scalar call gives.
-use Rattle.std.proofs.Common.{arith, sym, refl, ◌∙◌, length}
 use Rattle.vk_ast.specs.Tree.{expr_of}
 use Rattle.vk_ast.specs.Units.{function_of}
 use Rattle.vk_lanes.specs.Masks.{is_on, lane_count}
 use Rattle.vk_code.specs.Listing.{listing_of}
 use Rattle.vk_arguments.specs.Arguments.{passed}
 use Rattle.vk_flat.proofs.Grown.{if_ok_both}
-use Rattle.vk_flat_functions.specs.Returns.{HasParams}
 use Rattle.vk_unit_call.proofs.Lanes.{lane_fits, lane_told}
 use Rattle.vk_unit_call.proofs.Ran.{front_words}
 use Rattle.vk_unit_call.proofs.calling.call.Goals as goal

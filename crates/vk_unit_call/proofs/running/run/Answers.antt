@@ -1,18 +1,11 @@
 -- What the machine gives is what the code does.
-use Rattle.std.proofs.Common.{rules, sym, ap, ◌∙◌, ◌≡◌, length, cond, take, drop, ◌++◌, List, Option, None}
-use Rattle.std.specs.Option.{is_none}
-use Rattle.vk_types.specs.declared.types.Word.{Word}
-use Rattle.vk_types.specs.declared.types.Stop.{Stop}
-use Rattle.vk_lanes.specs.Masks.{is_on, lane_count}
+use Rattle.std.proofs.Common.{rules, ap, ◌∙◌, length, drop}
+use Rattle.vk_lanes.specs.Masks.{is_on}
 use Rattle.vk_lanes.specs.Words.{word_in}
 use Rattle.vk_code.specs.Listing.{listing_of}
-use Rattle.vk_lane.specs.Runs.{results_of}
-use Rattle.vk_arguments.specs.Arguments.{passed}
 use Rattle.vk_lane_lines.specs.Lines.{stops_in}
 use Rattle.vk_object.specs.Machine.{Given}
-use Rattle.vk_machine.specs.Machines.{called}
 use Rattle.vk_steps.specs.Places.{image_tables}
-use Rattle.vk_unit_call.specs.Inner.Runs.{ran}
 use Rattle.vk_unit_call.proofs.Ran.{called_is, front_is, given_word}
 use Rattle.vk_unit_call.proofs.running.run.Goals as goal
 
