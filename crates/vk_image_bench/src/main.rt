@@ -10,6 +10,8 @@
 
 mod works;
 
+ghost use Rattle.std.specs.Prelude.{◌≢◌};
+
 use std::alloc::Global;
 use std::env;
 use std::process::ExitCode;
@@ -130,6 +132,9 @@ fn again(alloc: Global, bytes: &[u8], piece_size: usize) -> Result<Option<usize>
     match read(alloc, bytes, piece_size) {
         Err(fail) => Err(fail),
         Ok(image) => {
+            if image.main.is_none() {
+                return Ok(None);
+            }
             let written = write_image(alloc, &image)?;
             if written.as_slice() != bytes {
                 return Ok(None);
