@@ -1,0 +1,5 @@
+mod Silence
+mod Expressions
+mod Effects
+mod Statements
+mod Calls
