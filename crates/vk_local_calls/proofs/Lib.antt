@@ -3,3 +3,4 @@ mod Expressions
 mod Effects
 mod Statements
 mod Calls
+mod Returns

@@ -6,9 +6,11 @@ ghost use Rattle.vk_rules_book.specs.Scopes.{types_of};
 ghost use Rattle.vk_meaning.specs.Meaning.{means};
 ghost use Rattle.vk_meaning.specs.Programs.{Definition, arrays_of};
 ghost use Rattle.vk_meaning_laws.specs.Tame.{ConstsAreFixed, IsLaneFunction, IsTameProgram};
+ghost use Rattle.vk_meaning_accepted.specs.Linked.{AgreeOnConsts, AgreeOnFunctions, AreAccepted};
 ghost use Rattle.vk_lane_calls.specs.Callable.{IsLocalCall};
 ghost use Rattle.vk_local_calls.specs.Returns.{HaveRightReturns};
 
+use vk_meaning_accepted::laws::{accepted_programs_are_tame, consts_are_fixed};
 use vk_meaning_laws::laws::{reads_within_reach, writes_within_reach};
 
 /// A call of a tame function depends on what it reaches, changes what its written pointers name, has no events, and gives a word of its
@@ -20,4 +22,15 @@ pub fn calls_are_local()
 {
     reads_within_reach();
     writes_within_reach();
+}
+
+/// So it is in accepted units that agree on their functions and `const` objects.
+pub fn accepted_calls_are_local()
+    ensures { (units : List Subject) (lane : List ℕ → Bool) (turns : ℕ) → AreAccepted units → AgreeOnFunctions units lane → AgreeOnConsts units
+        → lane (codes "print") ≡ false → (text : List ℕ) (d : Definition) → IsLaneFunction units lane text d
+        → IsLocalCall (types_of d.function.params) d.function.result (arrays_of units) (means units turns text) }
+{
+    calls_are_local();
+    accepted_programs_are_tame();
+    consts_are_fixed();
 }
