@@ -2,5 +2,5 @@ mod LaneScopes
 mod Tame
 mod Expressions
 mod Statements
-mod Definitions
-mod Programs
+pub mod Definitions
+pub mod Programs

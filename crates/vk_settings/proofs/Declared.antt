@@ -21,7 +21,7 @@ pub record IsDeclaration (xs : List ItemTree) (id : NameId) (g : FunctionTree) :
 declared_later : (i : ItemTree) (xs : List ItemTree) (id : NameId) (g : FunctionTree) → IsDeclaration xs id g → IsDeclaration (i ∷ xs) id g
 declared_later i xs id g h = record { among = later i (function g) xs h.among; named = h.named }
 
-declaration : (xs : List ItemTree) (id : NameId) (g : FunctionTree) → first_declaration xs id ≡ Some (function g) → IsDeclaration xs id g
+pub declaration : (xs : List ItemTree) (id : NameId) (g : FunctionTree) → first_declaration xs id ≡ Some (function g) → IsDeclaration xs id g
 unfolding first_declaration
 declaration [] id g e = cc
 declaration (i ∷ xs) id g e = at (declares id i) refl e (λ k. declaration xs id g k)
@@ -57,7 +57,7 @@ module _ (v : Subject) (accepted : IsAccepted v) (id : NameId) (g : FunctionTree
   not_that true c h k = sym (h refl) ∙ k
   not_that false c h k = refl
 
-  found_first : (xs : List ItemTree) → ((i : ItemTree) → Contains xs i → Contains v.items i) → first_declaration xs id ≡ Some (function g) → first_of (function_named (text_of v.texts id) v) xs ≡ Some g
+  pub found_first : (xs : List ItemTree) → ((i : ItemTree) → Contains xs i → Contains v.items i) → first_declaration xs id ≡ Some (function g) → first_of (function_named (text_of v.texts id) v) xs ≡ Some g
   unfolding first_declaration
   found_first [] inside e = cc
   found_first (function h ∷ xs) inside e = at (same_name h.name id) refl e (λ k. found_first xs (λ i m. inside i (later (function h) i xs m)) k)

@@ -1,9 +1,9 @@
-mod Heads
-mod Declared
+pub mod Heads
+pub mod Declared
 mod Files
 mod Meant
 mod Sound
-mod Told
+pub mod Told
 mod Calls
 mod Numbers
 mod Agreeing

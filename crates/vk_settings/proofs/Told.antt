@@ -22,7 +22,7 @@ use Rattle.vk_settings.specs.Programs.{IsTold}
 use Rattle.vk_settings.proofs.Heads.{HasHead, defined_in_unit, has_head}
 
 -- what a unit that defines a function declares
-declared_there : (v : Subject) → IsAccepted v → (g : List ℕ) (f : Definition) → definition_in g v ≡ Some f → (h : HasHead g v f) → declared_in_unit v g ≡ Some (declared_as v g h.first)
+pub declared_there : (v : Subject) → IsAccepted v → (g : List ℕ) (f : Definition) → definition_in g v ≡ Some f → (h : HasHead g v f) → declared_in_unit v g ≡ Some (declared_as v g h.first)
 declared_there v accepted g f e h = at (bytes_eq g (codes "print")) refl
   where
     no : (o : Option Definition) → o ≡ None → o ≡ Some f → ⊥

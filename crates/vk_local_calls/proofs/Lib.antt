@@ -1,0 +1,6 @@
+mod Silence
+mod Expressions
+mod Effects
+mod Statements
+mod Calls
+mod Returns
