@@ -1,0 +1,10 @@
+//! The compiler of statements to lane code.
+#![tactic(auto)]
+
+pub mod assigning;
+pub mod branching;
+pub mod guards;
+pub mod leaving;
+pub mod statement;
+
+pub use guards::Guards;
