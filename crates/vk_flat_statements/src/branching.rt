@@ -33,6 +33,7 @@ pub fn unite(emitter: &mut Emitter, guards: Guards) -> Result<(), AllocError>
     requires some { 0 < guards.running }
     requires running { guards.running < guards.free }
     requires masks { guards.free + 2 ≤ emitter.old.masks }
+    requires room { guards.free + 2 < 65536 }
     ensures code { OnOk result (Adds (written_of emitter.old) (written_of emitter.new) (Unites guards.running guards.free (guards.free + 1)) 1 0) }
     ensures base { OnOk result (HasBase emitter.old emitter.new 0) }
 {

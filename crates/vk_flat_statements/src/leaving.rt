@@ -1,6 +1,6 @@
 // `return`, in lanes.
 
-ghost use Rattle.std.specs.Prelude.{◌≡◌, ◌+◌, ◌≤◌, ◌<◌, ◌&&◌, ℕ, length, IsTrue, None, OnOk, Ok, Some};
+ghost use Rattle.std.specs.Prelude.{◌≡◌, ◌+◌, ◌<◌, ℕ, IsTrue, None, OnOk, Ok, Some};
 ghost use Rattle.vk_ast.specs.Statements.{return_value};
 ghost use Rattle.vk_ast.specs.Tree.{expr_of, nodes_of};
 ghost use Rattle.vk_construct.specs.Adds.{Adds, LeavesOut};
@@ -9,6 +9,7 @@ ghost use Rattle.vk_flat.specs.Locals.{is_numeric};
 ghost use Rattle.vk_flat_statements.specs.Frames.{HasGrown, IsReady, guards_of, return_place};
 ghost use Rattle.vk_flat_statements.specs.Statements.{EmitsStatement};
 
+use crate::assigning::store;
 use crate::guards::Guards;
 use std::alloc::AllocError;
 use vk_ast::Expr;
@@ -59,13 +60,12 @@ pub fn emit_returned(
 ) -> Result<(), AllocError>
     requires numeric { IsTrue (is_numeric locals.now (expr_of e.now)) }
     requires place { IsPlace (written_of emitter.old) d }
-    requires free { emitter.old.params ≤ d.register }
     requires ready { IsReady emitter.old locals.now (guards_of guards) (1 + nodes_of (expr_of e.now)) }
     ensures code { (line token : ℕ) → OnOk result (EmitsStatement (written_of emitter.old) (written_of emitter.new) locals.now locals.now (return_place (Some d)) (return_value line token (Some (expr_of e.now))) (guards_of guards) 0) }
     ensures grown { OnOk result (HasGrown emitter.old emitter.new (1 + nodes_of (expr_of e.now))) }
 {
     let a = emit(emitter, locals, e, guards.under())?;
-    emitter.convert_into(a, d, guards.under())?;
+    store(emitter, a, d, guards.running)?;
     leave(emitter, guards.staying, guards.running)?;
     leave(emitter, guards.running, guards.running)
 }
