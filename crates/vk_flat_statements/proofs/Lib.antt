@@ -2,3 +2,4 @@ pub mod Pieces
 pub mod Standing
 pub mod Leaves
 pub mod Returning
+pub mod Combining

@@ -119,8 +119,9 @@ pub fn emit_combined(
     let Some(local) = local_named(locals, *id) else {
         unreachable!();
     };
-    let b = emit(emitter, locals, e, guards.under())?;
-    let a = emitter.binary(op, local.place, b, guards.under())?;
+    let under = guards.under();
+    let b = emit(emitter, locals, e, under)?;
+    let a = emitter.binary(op, local.place, b, under)?;
     store(emitter, a, local.place, guards.running)
 }
 
