@@ -3,3 +3,4 @@ pub mod Standing
 pub mod Leaves
 pub mod Returning
 pub mod Combining
+pub mod Declaring

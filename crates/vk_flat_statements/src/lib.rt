@@ -5,6 +5,5 @@ pub mod assigning;
 pub mod branching;
 pub mod guards;
 pub mod leaving;
-pub mod statement;
 
 pub use guards::Guards;
