@@ -1,30 +1,35 @@
 -- Statements without statements in them.
-use Rattle.std.proofs.Common.{arith, sym, ◌≡◌, ℕ, ◌+◌, ◌*◌, ◌<◌, ◌≤◌, false, List, length, refl, subst, ap, ◌∙◌, Some, None, IsTrue, Ok}
+use Rattle.std.proofs.Common.{arith, sym, ◌≡◌, ℕ, ◌+◌, ◌*◌, ◌<◌, ◌≤◌, Bool, List, [], ◌∷◌, ◌++◌, length, pos, refl, subst, ap, ◌∙◌, Some, None, IsTrue, Ok}
 use Rattle.vk_types.specs.declared.types.Ty.{Ty}
 use Rattle.vk_types.specs.Numbers.{word_of, wrap_number}
 use Rattle.vk_kinds.specs.declared.heads.CType.{CType}
 use Rattle.vk_kinds.specs.declared.heads.CType.TheVariants.{Int}
 use Rattle.vk_ast.specs.declared.names.NameId.{NameId}
-use Rattle.vk_ast.specs.Statements.{assign, value}
+use Rattle.vk_ast.specs.Statements.{assign, local, value}
 use Rattle.vk_ast.specs.Tree.{Tree, name, nodes_of}
 use Rattle.vk_rules_book.specs.Scopes.{Scope}
 use Rattle.vk_meaning.specs.Expressions.{value_of}
-use Rattle.vk_meaning.specs.Statements.{assign_variable, assignment_to}
+use Rattle.vk_meaning.specs.Statements.{assign_variable, assignment_to, fell, with_variable}
+use Rattle.vk_meaning.specs.Data.{number}
 use Rattle.vk_lane.specs.Writes.{Writes}
 use Rattle.vk_construct.specs.Adds.{Adds, AddsValue, IsTableOf, Written}
 use Rattle.vk_construct.specs.Applies.{number_at}
 use Rattle.vk_construct.specs.Computes.{Table}
-use Rattle.vk_construct.proofs.Adding.{type_kept}
+use Rattle.vk_construct.proofs.Adding.{is_inside, type_kept}
 use Rattle.vk_construct.proofs.Evaluating.{emits_same}
-use Rattle.vk_construct_statements.specs.Follows.{AreApart, Guards, ReturnPlace}
+use Rattle.vk_construct_statements.specs.Follows.{AreApart, Guards, ReturnPlace, pushed}
 use Rattle.vk_construct_statements.specs.Statements.{AddsStatement}
-use Rattle.vk_construct_statements.proofs.Flow.{flow_assign, flow_value}
-use Rattle.vk_construct_statements.proofs.Straight.{front_same}
+use Rattle.vk_construct_statements.proofs.Flow.{flow_assign, flow_declared, flow_value}
+use Rattle.vk_construct_statements.proofs.Straight.{front_pushed, front_same}
 use Rattle.vk_flat.specs.declared.emitter.Under.{Under}
 use Rattle.vk_flat.specs.declared.emitter.Place.{Place}
 use Rattle.vk_flat.specs.declared.locals.Local.{Local}
 use Rattle.vk_flat.specs.Locals.{AreLocals, Emits, is_numeric, local_named}
 use Rattle.vk_flat_statements.specs.Statements.{EmitsStatement, StandFor, returning}
+use Rattle.vk_flat.specs.Emitters.{IsPlace, with_register}
+use Rattle.vk_flat.proofs.Grown.{fresh_then}
+use Rattle.vk_flat.proofs.Steps.{new_place}
+use Rattle.vk_flat_statements.proofs.Declaring.{stands_more}
 use Rattle.vk_flat_statements.proofs.Standing.{larger, numeric_same, stands_behind}
 
 -- an expression's code, as a function of this result sees its value
@@ -66,3 +71,26 @@ module _ (a b c : Written) (locals : List Local) (l k l1 k1 : ℕ) (id : NameId)
     };
     kept = λ y p. type_kept b c _ 1 0 y.register (Int y.ty) s (h.kept y p);
   }
+
+-- a variable more, which is 0
+pub declared_emits : (a f b : Written) (locals : List Local) (l k : ℕ) (fixed : Bool) (id : NameId) (d : Place) (m : Guards) (v : ReturnPlace) → AreApart m → f ≡ with_register a d.ty → d.register ≡ length a.regs →
+    Adds f b (λ q. Writes m.running d.register (λ j h. Ok 0)) 1 0 → EmitsStatement a b locals (locals ++ record { name = id; place = d } ∷ []) v (local l k d.ty fixed id None) m 0
+declared_emits a f b locals l k fixed id d m v ap_ e at p = record {
+  code = λ scope loops tb st. record {
+    table = pushed tb d.register (Int d.ty);
+    front = front_pushed tb d.register (Int d.ty);
+    code = larger a b _ 1 32 0 (omega arith) (subst (λ n. AddsStatement a b v tb (pushed tb d.register (Int d.ty)) (λ c s. fell (with_variable s n (number (pos 0)))) m 1 0) st.count
+        (flow_declared a b v tb d.ty d.register m ap_ (λ x lx z. absurd (above (tb.reg x) (st.registers.below x lx) z)) whole));
+    stand = stands_more a b locals scope tb id d fixed st (λ x t h. type_kept a b _ 1 0 x t whole h) here at (subst (λ n. n < length b.regs) at (is_inside b.regs d.register (Int d.ty) here));
+  };
+  kept = λ y h. type_kept a b _ 1 0 y.register (Int y.ty) whole h;
+}
+  where
+    whole : Adds a b (λ q. Writes m.running d.register (λ j h. Ok 0)) 1 0
+    whole = fresh_then a f d.ty e b _ 1 0 p
+
+    here : IsPlace b d
+    here = type_kept f b _ 1 0 d.register (Int d.ty) p (new_place a f d e at)
+
+    above : (r : ℕ) → r < length a.regs → r ≡ d.register → ⊥
+    above r lr z = omega (arith, lr, z, at)
