@@ -1,5 +1,5 @@
 -- An assignment with an operator.
-use Rattle.std.proofs.Common.{arith, sym, ◌≡◌, ℕ, ◌+◌, ◌*◌, ◌<◌, false, true, ◌&&◌, Bool, List, length, refl, subst, ap, ◌∙◌, Option, Some, None, IsTrue, is_some, Ok, true≢false}
+use Rattle.std.proofs.Common.{arith, sym, ◌≡◌, ℕ, ◌+◌, ◌*◌, ◌<◌, false, true, ◌&&◌, Bool, List, length, refl, subst, ap, ◌∙◌, Some, IsTrue, is_some, Ok, true≢false}
 use Rattle.vk_types.specs.declared.types.Ty.{Ty}
 use Rattle.vk_types.specs.Numbers.{word_of, wrap_number}
 use Rattle.vk_kinds.specs.declared.heads.CType.{CType}
@@ -60,7 +60,6 @@ evaluates_both Gt s t left right w h = refl
 evaluates_both Ge s t left right w h = refl
 evaluates_both LogAnd s t left right w h = absurd (true≢false h)
 evaluates_both LogOr s t left right w h = absurd (true≢false h)
-
 
 -- the value that is assigned is that of the operator's expression
 combines : (c : Context) (scope : Scope) (vs : Variables) (w : World) (v : Variable) (id : NameId) (l1 k1 : ℕ) (op : BinOp) (s t : Ty) (e : Tree) → is_logical op ≡ false → variable_named scope id ≡ Some v → HasNumber scope (name l1 k1 id) s → HasNumber scope e t →

@@ -1,7 +1,6 @@
 -- A variable more.
-use Rattle.std.proofs.Common.{arith, sym, ◌≡◌, ◌≢◌, ℕ, suc, ◌+◌, ◌*◌, ◌<◌, ◌==◌, Bool, true, false, cond, List, [], ◌∷◌, ◌++◌, length, refl, subst, ap, ◌∙◌, pos, Option, Some, None, slice_get}
+use Rattle.std.proofs.Common.{arith, sym, ◌≡◌, ◌≢◌, ℕ, suc, ◌+◌, ◌<◌, ◌==◌, Bool, true, false, cond, List, [], ◌∷◌, ◌++◌, length, refl, subst, ap, ◌∙◌, Option, Some, None, slice_get}
 use Rattle.std.specs.Option.{option_or}
-use Rattle.vk_types.specs.declared.types.Ty.{Ty}
 use Rattle.vk_kinds.specs.declared.heads.CType.{CType}
 use Rattle.vk_kinds.specs.declared.heads.CType.TheVariants.{Int}
 use Rattle.vk_ast.specs.declared.names.NameId.{NameId}
@@ -14,7 +13,7 @@ use Rattle.vk_construct_statements.specs.Follows.{pushed}
 use Rattle.vk_flat.specs.declared.locals.Local.{Local}
 use Rattle.vk_flat.specs.declared.emitter.Place.{Place}
 use Rattle.vk_flat.specs.Emitters.{IsPlace}
-use Rattle.vk_flat.specs.Locals.{AreLocals, IsVariable, local_named}
+use Rattle.vk_flat.specs.Locals.{IsVariable, local_named}
 use Rattle.vk_lane.proofs.Rules.{same_not, same_number, same_yes}
 use Rattle.vk_flat_statements.specs.Statements.{StandFor}
 

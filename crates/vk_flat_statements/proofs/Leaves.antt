@@ -1,6 +1,5 @@
 -- Statements without statements in them.
-use Rattle.std.proofs.Common.{arith, sym, ◌≡◌, ℕ, ◌+◌, ◌*◌, ◌<◌, ◌≤◌, Bool, List, [], ◌∷◌, ◌++◌, length, pos, refl, subst, ap, ◌∙◌, Some, None, IsTrue, Ok}
-use Rattle.vk_types.specs.declared.types.Ty.{Ty}
+use Rattle.std.proofs.Common.{arith, sym, ◌≡◌, ℕ, ◌+◌, ◌*◌, ◌<◌, Bool, List, [], ◌∷◌, ◌++◌, length, pos, subst, ap, ◌∙◌, Some, None, IsTrue, Ok}
 use Rattle.vk_types.specs.Numbers.{word_of, wrap_number}
 use Rattle.vk_kinds.specs.declared.heads.CType.{CType}
 use Rattle.vk_kinds.specs.declared.heads.CType.TheVariants.{Int}
@@ -12,7 +11,7 @@ use Rattle.vk_meaning.specs.Expressions.{value_of}
 use Rattle.vk_meaning.specs.Statements.{assign_variable, assignment_to, fell, with_variable}
 use Rattle.vk_meaning.specs.Data.{number}
 use Rattle.vk_lane.specs.Writes.{Writes}
-use Rattle.vk_construct.specs.Adds.{Adds, AddsValue, IsTableOf, Written}
+use Rattle.vk_construct.specs.Adds.{Adds, AddsValue, Written}
 use Rattle.vk_construct.specs.Applies.{number_at}
 use Rattle.vk_construct.specs.Computes.{Table}
 use Rattle.vk_construct.proofs.Adding.{is_inside, type_kept}
@@ -24,7 +23,7 @@ use Rattle.vk_construct_statements.proofs.Straight.{front_pushed, front_same}
 use Rattle.vk_flat.specs.declared.emitter.Under.{Under}
 use Rattle.vk_flat.specs.declared.emitter.Place.{Place}
 use Rattle.vk_flat.specs.declared.locals.Local.{Local}
-use Rattle.vk_flat.specs.Locals.{AreLocals, Emits, is_numeric, local_named}
+use Rattle.vk_flat.specs.Locals.{Emits, is_numeric, local_named}
 use Rattle.vk_flat_statements.specs.Statements.{EmitsStatement, StandFor, returning}
 use Rattle.vk_flat.specs.Emitters.{IsPlace, with_register}
 use Rattle.vk_flat.proofs.Grown.{fresh_then}

@@ -1,5 +1,5 @@
 -- `return` in lanes.
-use Rattle.std.proofs.Common.{arith, sym, ◌≡◌, ℕ, ◌+◌, ◌*◌, ◌<◌, ◌≤◌, List, length, refl, subst, ap, ◌∙◌, pos, Some, None, IsTrue, Ok}
+use Rattle.std.proofs.Common.{arith, sym, ◌≡◌, ℕ, ◌+◌, ◌*◌, ◌<◌, List, length, refl, subst, ap, ◌∙◌, Some, None, IsTrue, Ok}
 use Rattle.vk_types.specs.declared.types.Ty.{Ty}
 use Rattle.vk_types.specs.Numbers.{number_of, word_of, wrap_number}
 use Rattle.vk_kinds.specs.declared.heads.CType.{CType}
@@ -7,14 +7,11 @@ use Rattle.vk_kinds.specs.declared.heads.CType.TheVariants.{Int, Void}
 use Rattle.vk_numbers.proofs.Numbers.{number_of-word, wrap_in_range}
 use Rattle.vk_ast.specs.Statements.{return_value}
 use Rattle.vk_ast.specs.Tree.{Tree, nodes_of}
-use Rattle.vk_rules_book.specs.Scopes.{Scope}
-use Rattle.vk_meaning.specs.World.{World}
 use Rattle.vk_meaning.specs.Data.{Datum, Value, and_then, as_type, got, halts, nothing, number, number_in, with_value}
 use Rattle.vk_meaning.specs.Expressions.{Context, value_of}
-use Rattle.vk_meaning.specs.Statements.{Effect, State, on_value, return_of, returned}
+use Rattle.vk_meaning.specs.Statements.{Effect, State, on_value, returned}
 use Rattle.vk_meaning.specs.Lanes.{datum_of}
 use Rattle.vk_lane.specs.Entries.{place_of}
-use Rattle.vk_lane.specs.Places.{Share}
 use Rattle.vk_lane.specs.Writes.{Writes}
 use Rattle.vk_construct.specs.Adds.{Adds, AddsValue, LeavesOut, Written}
 use Rattle.vk_construct.specs.Applies.{number_at}
@@ -22,7 +19,7 @@ use Rattle.vk_construct.specs.Computes.{Computes, Table}
 use Rattle.vk_construct.proofs.Adding.{adds_nil, adds_then, adds_weaken, type_kept}
 use Rattle.vk_construct.proofs.Evaluating.{Expression}
 use Rattle.vk_construct.proofs.Values.{idles_same, keeps_same, then_write}
-use Rattle.vk_construct_statements.specs.Follows.{AreApart, Follows, Guards, ReturnPlace}
+use Rattle.vk_construct_statements.specs.Follows.{AreApart, Guards, ReturnPlace}
 use Rattle.vk_construct_statements.specs.Statements.{AddsStatement}
 use Rattle.vk_construct_statements.proofs.Flow.{flow_return}
 use Rattle.vk_construct_statements.proofs.Straight.{front_same}
@@ -31,7 +28,7 @@ use Rattle.vk_flat.specs.declared.emitter.Under.{Under}
 use Rattle.vk_flat.specs.declared.locals.Local.{Local}
 use Rattle.vk_flat.specs.Locals.{Emits, is_numeric}
 use Rattle.vk_flat_statements.specs.Frames.{return_place}
-use Rattle.vk_flat_statements.specs.Statements.{EmitsStatement, StandFor, returning}
+use Rattle.vk_flat_statements.specs.Statements.{EmitsStatement, returning}
 use Rattle.vk_flat_statements.proofs.Leaves.{emitted}
 use Rattle.vk_flat_statements.proofs.Standing.{larger, stands_behind}
 

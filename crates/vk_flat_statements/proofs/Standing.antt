@@ -1,7 +1,6 @@
 -- Names, variables and registers, behind code and behind a declaration.
-use Rattle.std.proofs.Common.{arith, sym, ◌≡◌, ◌≢◌, ℕ, ◌+◌, ◌<◌, ◌≤◌, Bool, true, false, cond, ◌&&◌, List, [], ◌∷◌, ◌++◌, length, refl, subst, ap, ap₂, ◌∙◌, Option, Some, None, IsTrue, is_some, true≢false}
+use Rattle.std.proofs.Common.{sym, ◌≡◌, ℕ, ◌≤◌, Bool, true, false, ◌&&◌, List, length, refl, ap, ap₂, ◌∙◌, Option, Some, None, IsTrue, is_some, true≢false}
 use Rattle.vk_kinds.specs.declared.heads.CType.{CType}
-use Rattle.vk_ast.specs.declared.names.NameId.{NameId}
 use Rattle.vk_ast.specs.Tree.{Tree, binary, cast, choice, int, name, unary, index, deref, addr, call}
 use Rattle.vk_rules_book.specs.Scopes.{Scope}
 use Rattle.vk_rules_book.specs.Typings.{typing_of}
@@ -11,7 +10,7 @@ use Rattle.vk_types.specs.Conversions.{common_type}
 use Rattle.vk_numbers.specs.Operators.{unary_number}
 use Rattle.vk_lane.specs.Entries.{LaneCall}
 use Rattle.vk_lane.specs.Pieces.{Change}
-use Rattle.vk_construct.specs.Adds.{Adds, AddsValue, IsTableOf, Written}
+use Rattle.vk_construct.specs.Adds.{Adds, Written}
 use Rattle.vk_construct.specs.Computes.{Table}
 use Rattle.vk_construct.proofs.Adding.{adds_weaken, no_fewer, table_kept, table_more}
 use Rattle.vk_flat.specs.declared.locals.Local.{Local}

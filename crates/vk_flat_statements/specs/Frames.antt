@@ -1,5 +1,5 @@
 -- What an emitter of statements needs, and what it leaves.
-use Rattle.std.specs.Prelude.{◌≡◌, ℕ, ◌+◌, ◌*◌, ◌≤◌, ◌<◌, List, [], ◌∷◌, ◌++◌, length, Option, Some, None, true}
+use Rattle.std.specs.Prelude.{◌≡◌, ℕ, ◌+◌, ◌*◌, ◌≤◌, ◌<◌, List, [], ◌∷◌, ◌++◌, length, Option, Some, None}
 use Rattle.vk_types.specs.declared.types.Ty.{Ty}
 use Rattle.vk_ast.specs.declared.names.NameId.{NameId}
 use Rattle.vk_kinds.specs.declared.heads.CType.TheVariants.{Int, Void}

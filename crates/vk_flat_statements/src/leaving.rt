@@ -37,11 +37,7 @@ pub fn leave(emitter: &mut Emitter, from: u16, lanes: u16) -> Result<(), AllocEr
 }
 
 /// `return;`
-pub fn emit_end(
-    emitter: &mut Emitter,
-    locals: &[Local],
-    guards: Guards,
-) -> Result<(), AllocError>
+pub fn emit_end(emitter: &mut Emitter, locals: &[Local], guards: Guards) -> Result<(), AllocError>
     requires ready { IsReady emitter.old locals.now (guards_of guards) 1 }
     ensures code { (line token : ℕ) → OnOk result (EmitsStatement (written_of emitter.old) (written_of emitter.new) locals.now locals.now (return_place None) (return_value line token None) (guards_of guards) 0) }
     ensures grown { OnOk result (HasGrown emitter.old emitter.new 1) }
