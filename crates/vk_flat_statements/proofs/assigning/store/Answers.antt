@@ -1,0 +1,7 @@
+use Rattle.vk_flat.specs.Emitters.{written_of}
+use Rattle.vk_flat.proofs.Grown.{on_ok}
+use Rattle.vk_flat_statements.proofs.Pieces.{stores}
+use Rattle.vk_flat_statements.proofs.assigning.store.Goals as goal
+
+pub returns-clause-code : goal.returns-clause-code
+returns-clause-code c = on_ok c.put.result (λ p. stores (written_of c.args.emitter.now) (written_of c.put.new.self) c.args.a c.args.d c.args.mask p c.requires.running c.requires.operand c.requires.place) c.put.ensures
