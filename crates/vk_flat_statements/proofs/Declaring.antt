@@ -21,7 +21,7 @@ or_assoc : {A : Type 0} → (a b c : Option A) → option_or (option_or a b) c �
 or_assoc (Some x) b c = refl
 or_assoc None b c = refl
 
-some_is : {A : Type 0} → {x y : A} → Some x ≡ Some y → x ≡ y
+pub some_is : {A : Type 0} → {x y : A} → Some x ≡ Some y → x ≡ y
 some_is e = cc
 
 or_none : {A : Type 0} → (a : Option A) → a ≡ option_or a None

@@ -4,3 +4,7 @@ pub mod Leaves
 pub mod Returning
 pub mod Combining
 pub mod Declaring
+pub mod Alike
+pub mod Initialising
+pub mod Jumping
+pub mod Compiling

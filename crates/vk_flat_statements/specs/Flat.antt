@@ -3,7 +3,7 @@ use Rattle.std.specs.Prelude.{Bool, true, false, not, ◌&&◌, List, [], ◌∷
 use Rattle.vk_types.specs.declared.types.Ty.{Ty}
 use Rattle.vk_ast.specs.declared.expressions.BinOp.{BinOp}
 use Rattle.vk_ast.specs.declared.names.NameId.{NameId}
-use Rattle.vk_ast.specs.Statements.{StmtTree, StmtTrees, empty, block, local, assign, value, if_only, if_else, return_value, no_stmts, more_stmts}
+use Rattle.vk_ast.specs.Statements.{StmtTree, StmtTrees, empty, block, local, assign, value, if_only, if_else, while_loop, do_loop, for_loop, break_loop, continue_loop, return_value, simd, no_stmts, more_stmts}
 use Rattle.vk_ast.specs.Tree.{Tree, name}
 use Rattle.vk_numbers.specs.Laws.{is_logical}
 use Rattle.vk_flat.specs.declared.locals.Local.{Local}
@@ -38,6 +38,17 @@ abbrev pub is_returned : List Local → (valued : Bool) → Option Tree → Bool
 is_returned locals valued None = not valued
 is_returned locals valued (Some e) = valued && is_numeric locals e
 
+-- a statement without statements in it
+abbrev pub is_leaf : StmtTree → Bool
+is_leaf (block l k ss) = false
+is_leaf (if_only l k test first) = false
+is_leaf (if_else l k test first second) = false
+is_leaf (while_loop l k test body) = false
+is_leaf (do_loop l k body test) = false
+is_leaf (for_loop l k first test third body) = false
+is_leaf (simd l k d body) = false
+is_leaf s = true
+
 -- a statement on these names, without loops, memory and calls
 abbrev mutual
   pub is_flat : (valued : Bool) → List Local → StmtTree → Bool
@@ -48,6 +59,8 @@ abbrev mutual
   is_flat valued locals (value l k e) = is_numeric locals e
   is_flat valued locals (if_only l k test first) = is_numeric locals test && is_flat valued locals first
   is_flat valued locals (if_else l k test first second) = is_numeric locals test && is_flat valued locals first && is_flat valued locals second
+  is_flat valued locals (break_loop l k) = true
+  is_flat valued locals (continue_loop l k) = true
   is_flat valued locals (return_value l k e) = is_returned locals valued e
   is_flat valued locals s = false
 

@@ -2,6 +2,7 @@
 use Rattle.std.specs.Prelude.{◌≡◌, ℕ, ◌+◌, ◌*◌, ◌≤◌, ◌<◌, List, [], ◌∷◌, ◌++◌, length, Option, Some, None}
 use Rattle.vk_types.specs.declared.types.Ty.{Ty}
 use Rattle.vk_ast.specs.declared.names.NameId.{NameId}
+use Rattle.vk_ast.specs.Statements.{StmtTree, local}
 use Rattle.vk_kinds.specs.declared.heads.CType.TheVariants.{Int, Void}
 use Rattle.vk_construct_statements.specs.Follows.{AreApart, Guards, ReturnPlace}
 use Rattle.vk_flat.specs.declared.emitter.Emitter.{Emitter}
@@ -30,6 +31,7 @@ pub record IsReady (e : Emitter) (locals : List Local) (m : Guards) (nodes : ℕ
   pub params : e.params ≤ length e.regs.items
   pub apart : AreApart m
   pub some_run : 0 < m.running
+  pub some_loop : 0 < m.looping
   pub some_stay : 0 < m.staying
   pub masks : m.free ≤ e.masks
   pub room : length e.regs.items + e.masks + 4 * nodes < 65536
@@ -47,3 +49,8 @@ pub record HasName (old : List Local) (id : NameId) (t : Ty) (new : List Local) 
   pub place : Place
   pub ty : place.ty ≡ t
   pub names : new ≡ old ++ record { name = id; place = place } ∷ []
+
+-- the names behind a statement, which may declare one
+abbrev pub AreBehind : List Local → StmtTree → List Local → Type 0
+AreBehind old (local l k t fixed id init) new = HasName old id t new
+AreBehind old s new = new ≡ old

@@ -10,7 +10,7 @@ ghost use Rattle.vk_construct.specs.Applies.{number_at};
 ghost use Rattle.vk_construct_statements.specs.Follows.{ReturnPlace};
 ghost use Rattle.vk_flat.specs.Emitters.{HasBase, IsPlace, written_of};
 ghost use Rattle.vk_flat.specs.Locals.{is_numeric};
-ghost use Rattle.vk_flat_statements.specs.Flat.{is_assigning, is_variable};
+ghost use Rattle.vk_flat_statements.specs.Flat.{is_assigning, is_variable, with_name};
 ghost use Rattle.vk_flat_statements.specs.Frames.{HasGrown, IsReady, guards_of};
 ghost use Rattle.vk_flat_statements.specs.Statements.{EmitsStatement};
 
@@ -143,5 +143,28 @@ pub fn emit_declared(
     let d = emitter.fresh(ty)?;
     clear(emitter, d, guards.running)?;
     locals.push(Local { name: id, place: d })?;
+    Ok(d)
+}
+
+/// A variable and its initialiser, in which it is 0 (C17 6.7.9).
+pub fn emit_initialised(
+    emitter: &mut Emitter,
+    locals: &mut Vec<Local>,
+    ty: Ty,
+    id: NameId,
+    e: &Expr,
+    guards: Guards,
+) -> Result<Place, AllocError>
+    requires numeric { IsTrue (is_numeric (with_name locals.old.items id ty) (expr_of e.now)) }
+    requires ready { IsReady emitter.old locals.old.items (guards_of guards) (2 + nodes_of (expr_of e.now)) }
+    ensures code { (line token : ℕ) (fixed : Bool) (v : ReturnPlace) → OnOk result (EmitsStatement (written_of emitter.old) (written_of emitter.new) locals.old.items locals.new.items v (local line token ty fixed id (Some (expr_of e.now))) (guards_of guards) 0) }
+    ensures names { IfOk result (λ d. locals.new.items ≡ locals.old.items ++ record { name = id; place = d } ∷ []) }
+    ensures ty { IfOk result (λ d. d.ty ≡ ty) }
+    ensures place { IfOk result (IsPlace (written_of emitter.new)) }
+    ensures grown { OnOk result (HasGrown emitter.old emitter.new (2 + nodes_of (expr_of e.now))) }
+{
+    let d = emit_declared(emitter, locals, ty, id, guards)?;
+    let a = emit(emitter, locals, e, guards.under())?;
+    store(emitter, a, d, guards.running)?;
     Ok(d)
 }

@@ -1,13 +1,20 @@
 // The two masks of an `if`, and the running one behind it.
 
-ghost use Rattle.std.specs.Prelude.{◌≡◌, ◌+◌, ◌≤◌, ◌<◌, length, OnOk};
+ghost use Rattle.std.specs.Prelude.{◌≡◌, ◌+◌, ◌≤◌, ◌<◌, length, IsTrue, OnOk};
+ghost use Rattle.vk_ast.specs.Tree.{expr_of, nodes_of};
 ghost use Rattle.vk_construct.specs.Adds.{Adds, Splits};
 ghost use Rattle.vk_construct_statements.specs.Statements.{Unites};
 ghost use Rattle.vk_flat.specs.Emitters.{HasBase, IsPlace, written_of};
+ghost use Rattle.vk_flat.specs.Locals.{is_numeric};
+ghost use Rattle.vk_flat_statements.specs.Frames.{IsReady, guards_of};
+ghost use Rattle.vk_flat_statements.specs.Statements.{Divides};
 
 use crate::guards::Guards;
 use std::alloc::AllocError;
+use vk_ast::Expr;
 use vk_code::Operation;
+use vk_flat::expression::emit;
+use vk_flat::locals::Local;
 use vk_flat::{Emitter, Place};
 
 /// The lanes that run are split by the number in `a`, into the first free mask and the one behind it.
@@ -45,4 +52,19 @@ pub fn unite(emitter: &mut Emitter, guards: Guards) -> Result<(), AllocError>
             b: guards.free + 1,
         },
     )
+}
+
+/// The lanes that run are split by a condition.
+pub fn divide(
+    emitter: &mut Emitter,
+    locals: &[Local],
+    test: &Expr,
+    guards: Guards,
+) -> Result<(), AllocError>
+    requires numeric { IsTrue (is_numeric locals.now (expr_of test.now)) }
+    requires ready { IsReady emitter.old locals.now (guards_of guards) (1 + nodes_of (expr_of test.now)) }
+    ensures { OnOk result (Divides emitter.old emitter.new locals.now (expr_of test.now) (guards_of guards)) }
+{
+    let a = emit(emitter, locals, test, guards.under())?;
+    part(emitter, a, guards)
 }

@@ -1,9 +1,10 @@
-// `return`, in lanes.
+// Jumps, in lanes: `return`, `break` and `continue` (C17 6.8.6).
 
 ghost use Rattle.std.specs.Prelude.{◌≡◌, ◌+◌, ◌<◌, ℕ, IsTrue, None, OnOk, Ok, Some};
-ghost use Rattle.vk_ast.specs.Statements.{return_value};
+ghost use Rattle.vk_ast.specs.Statements.{break_loop, continue_loop, return_value};
 ghost use Rattle.vk_ast.specs.Tree.{expr_of, nodes_of};
 ghost use Rattle.vk_construct.specs.Adds.{Adds, LeavesOut};
+ghost use Rattle.vk_construct_statements.specs.Follows.{ReturnPlace};
 ghost use Rattle.vk_flat.specs.Emitters.{HasBase, IsPlace, written_of};
 ghost use Rattle.vk_flat.specs.Locals.{is_numeric};
 ghost use Rattle.vk_flat_statements.specs.Frames.{HasGrown, IsReady, guards_of, return_place};
@@ -63,5 +64,28 @@ pub fn emit_returned(
     let a = emit(emitter, locals, e, guards.under())?;
     store(emitter, a, d, guards.running)?;
     leave(emitter, guards.staying, guards.running)?;
+    leave(emitter, guards.running, guards.running)
+}
+
+/// `break;`
+pub fn emit_break(emitter: &mut Emitter, locals: &[Local], guards: Guards) -> Result<(), AllocError>
+    requires ready { IsReady emitter.old locals.now (guards_of guards) 1 }
+    ensures code { (line token : ℕ) (v : ReturnPlace) → OnOk result (EmitsStatement (written_of emitter.old) (written_of emitter.new) locals.now locals.now v (break_loop line token) (guards_of guards) 0) }
+    ensures grown { OnOk result (HasGrown emitter.old emitter.new 1) }
+{
+    leave(emitter, guards.looping, guards.running)?;
+    leave(emitter, guards.running, guards.running)
+}
+
+/// `continue;`
+pub fn emit_continue(
+    emitter: &mut Emitter,
+    locals: &[Local],
+    guards: Guards,
+) -> Result<(), AllocError>
+    requires ready { IsReady emitter.old locals.now (guards_of guards) 1 }
+    ensures code { (line token : ℕ) (v : ReturnPlace) → OnOk result (EmitsStatement (written_of emitter.old) (written_of emitter.new) locals.now locals.now v (continue_loop line token) (guards_of guards) 0) }
+    ensures grown { OnOk result (HasGrown emitter.old emitter.new 1) }
+{
     leave(emitter, guards.running, guards.running)
 }

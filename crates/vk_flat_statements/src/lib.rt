@@ -4,6 +4,8 @@
 pub mod assigning;
 pub mod branching;
 pub mod guards;
+pub mod leaf;
 pub mod leaving;
 
 pub use guards::Guards;
+pub use leaf::emit_leaf;
