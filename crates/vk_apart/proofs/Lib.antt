@@ -1,0 +1,5 @@
+mod Answering
+mod Any
+mod Calling
+mod Lanes
+mod Reaching

@@ -1,0 +1,3 @@
+-- Definitions on which no public contract's meaning rests: what the code's own functions tell each other.
+pub mod Pairs
+pub mod Reaches

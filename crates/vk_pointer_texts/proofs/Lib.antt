@@ -1,0 +1,6 @@
+mod Noting
+mod Places
+mod Pointing
+mod Positions
+mod Splits
+mod Steps

@@ -1,0 +1,2 @@
+-- Definitions on which no public contract's meaning rests.
+pub mod Noted

@@ -1,0 +1,4 @@
+pub mod Heads
+pub mod Inner
+pub mod Texts
+pub mod Values
