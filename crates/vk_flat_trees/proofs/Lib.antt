@@ -1,0 +1,4 @@
+pub mod Emitting
+pub mod Pointing
+pub mod Cases
+pub mod Ready
