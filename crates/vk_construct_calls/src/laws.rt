@@ -1,9 +1,14 @@
 // The code of a call's arguments, and the call behind them, in one lane of any run.
 
-ghost use Rattle.std.specs.Prelude.{◌≡◌, ◌<◌, ◌≤◌, ◌++◌, ◌∷◌, [], ℕ, List, Some};
+ghost use Rattle.std.specs.Prelude.{◌≡◌, ◌+◌, ◌*◌, ◌<◌, ◌≤◌, ◌++◌, ◌∷◌, [], ℕ, List, length, Some, Ok};
+ghost use Rattle.vk_types.specs.declared.types.Ty.{Ty};
+ghost use Rattle.vk_types.specs.Numbers.{wrap_number};
 ghost use Rattle.vk_kinds.specs.declared.heads.CType.{CType};
-ghost use Rattle.vk_ast.specs.Tree.{Tree, Trees, more_trees};
-ghost use Rattle.vk_rules_book.specs.Scopes.{Scope};
+ghost use Rattle.vk_kinds.specs.declared.heads.CType.TheVariants.{Int};
+ghost use Rattle.vk_ast.specs.declared.names.NameId.{NameId};
+ghost use Rattle.vk_ast.specs.Tree.{Tree, Trees, all_nodes, call, more_trees, no_trees};
+ghost use Rattle.vk_rules_book.specs.Scopes.{Scope, meaning_of};
+ghost use Rattle.vk_rules_book.specs.Typings.{wanted_types};
 ghost use Rattle.vk_meaning.specs.World.{World};
 ghost use Rattle.vk_meaning.specs.Data.{Action, Datum, Value, and_then, as_type, given};
 ghost use Rattle.vk_meaning.specs.Types.{next_type, next_types};
@@ -12,7 +17,11 @@ ghost use Rattle.vk_object.specs.Lane.{is_live};
 ghost use Rattle.vk_lane.specs.Places.{IsFine, Share};
 ghost use Rattle.vk_lane.specs.Entries.{LaneCall, place_of};
 ghost use Rattle.vk_lane_calls.specs.Callees.{TakesIf};
+ghost use Rattle.vk_construct.specs.Adds.{Adds, AddsNumber, AddsValue, HasWritten, IsTableOf, Written};
+ghost use Rattle.vk_construct.specs.Applies.{one};
 ghost use Rattle.vk_construct.specs.Computes.{Computes, Idles, IsTable, Table};
+ghost use Rattle.vk_construct.specs.Trees.{AddsTree};
+ghost use Rattle.vk_construct_calls.specs.Arguments.{AddsArgument, AddsArguments};
 ghost use Rattle.vk_construct_calls.specs.Gathers.{Gathering, Gathers, HaveAll};
 
 /// Arguments are computed in order, each converted to its parameter's type into a register of its own; a stop in one ends the lane. The
@@ -28,4 +37,23 @@ pub fn calls_follow_arguments()
         → TakesIf (is_live m mid.lane) rt (Some rd) mid h' (value mid)
         → ((ds : List Datum) (w : World) → HaveAll (place_of q) j ts rs ds mid → mid.world ≡ w → value mid ≡ call ds w)
         → Computes (place_of q) tb (λ vs. E vs call) rt rd m d f j h h' }
+{}
+
+/// The code of a call's arguments: each is converted to its parameter's type (C17 6.5.2.2) and comes before the ones behind it. An
+/// instruction behind them that takes, in each live lane, what the function gives on the data in the arguments' registers makes the code
+/// of the call's value.
+pub fn arguments_are_converted()
+    ensures converted { (a b c : Written) (scope : Scope) (tb : Table) (s t : Ty) (e : Tree) (r d m f : ℕ)
+        → IsTableOf a tb (length a.regs) → m < f → AddsTree a b scope tb e s r m f
+        → AddsNumber b c (one (λ z. Ok (wrap_number t z)) s r) t d m (length b.regs) f 1 → AddsArgument a c scope tb (Int t) e d m f }
+    ensures none { (a : Written) (scope : Scope) (tb : Table) (ts : List CType) (m f : ℕ) → AddsArguments a a scope tb ts no_trees [] m f }
+    ensures more { (a b c : Written) (scope : Scope) (tb : Table) (ts : List CType) (e : Tree) (es : Trees) (r : ℕ) (rs : List ℕ) (m f : ℕ)
+        → IsTableOf a tb (length a.regs) → m < f → r < length b.regs
+        → AddsArgument a b scope tb (next_type ts) e r m f → AddsArguments b c scope tb (next_types ts) es rs m f
+        → AddsArguments a c scope tb ts (more_trees e es) (r ∷ rs) m f }
+    ensures taken { (a b c : Written) (scope : Scope) (tb : Table) (line token : ℕ) (id : NameId) (es : Trees) (t : Ty) (rs : List ℕ) (rd m f : ℕ) (value : LaneCall → Share → Value)
+        → m < f → length a.regs ≤ rd → AddsArguments a b scope tb (wanted_types (meaning_of scope id)) es rs m f
+        → Adds b c (λ q j h h'. TakesIf (is_live m h.lane) (Int t) (Some rd) h h' (value q h)) 1 0
+        → ((q : LaneCall) → HasWritten q c → (j : ℕ) (ds : List Datum) (h : Share) → HaveAll (place_of q) j (wanted_types (meaning_of scope id)) rs ds h → value q h ≡ q.context.call id ds h.world)
+        → AddsValue a c tb (λ k vs. value_of k scope vs (call line token id es)) (Int t) rd m (length a.regs) f (8 * all_nodes es + length rs + 1) }
 {}
