@@ -49,12 +49,12 @@ arguments_more a b c scope tb ts e es r rs m f it lm lr x y =
     lm (no_fewer a b _ (8 * nodes_of e + 1) 0 x) lr z.1 (λ dt. z.2 (before ++ dt ∷ [])) (z.2 []).idle)
 
 -- what takes the call's value into a register, behind the arguments
-pub call_taken : (a b c : Written) (scope : Scope) (tb : Table) (line token : ℕ) (id : NameId) (es : Trees) (t : Ty) (rs : List ℕ) (rd m f : ℕ) (value : LaneCall → Share → Value) → m < f → length a.regs ≤ rd →
-    AddsArguments a b scope tb (wanted_types (meaning_of scope id)) es rs m f → Adds b c (λ q j h h'. TakesIf (is_live m h.lane) (Int t) (Some rd) h h' (value q h)) 1 0 →
-    ((q : LaneCall) → HasWritten q c → (j : ℕ) (ds : List Datum) (h : Share) → HaveAll (place_of q) j (wanted_types (meaning_of scope id)) rs ds h → value q h ≡ q.context.call id ds h.world) →
+pub call_taken : (a b c : Written) (scope : Scope) (tb : Table) (line token : ℕ) (id : NameId) (es : Trees) (t : Ty) (rs : List ℕ) (rd m f : ℕ) (value : LaneCall → ℕ → Share → Value) → m < f → length a.regs ≤ rd →
+    AddsArguments a b scope tb (wanted_types (meaning_of scope id)) es rs m f → Adds b c (λ q j h h'. TakesIf (is_live m h.lane) (Int t) (Some rd) h h' (value q j h)) 1 0 →
+    ((q : LaneCall) → HasWritten q c → (j : ℕ) (ds : List Datum) (h : Share) → HaveAll (place_of q) j (wanted_types (meaning_of scope id)) rs ds h → value q j h ≡ q.context.call id ds h.world) →
     AddsValue a c tb (λ k vs. value_of k scope vs (call line token id es)) (Int t) rd m (length a.regs) f (8 * all_nodes es + length rs + 1)
 call_taken a b c scope tb line token id es t rs rd m f value lm ld x y same =
     adds_weaken a c _ _ (8 * all_nodes es + length rs + 1) (8 * all_nodes es + length rs + 1) 0 (adds_then a b c _ _ (8 * all_nodes es + length rs) 1 0 x y) (omega arith)
     (λ q hw j h h' s s' z.
-    then_call (place_of q) tb (λ vs. with_arguments q.context scope vs (wanted_types (meaning_of scope id)) es []) (q.context.call id) (wanted_types (meaning_of scope id)) rs (Int t) rd m (length a.regs) f j (value q) h z.0 h' lm ld (λ dt. tt)
+    then_call (place_of q) tb (λ vs. with_arguments q.context scope vs (wanted_types (meaning_of scope id)) es []) (q.context.call id) (wanted_types (meaning_of scope id)) rs (Int t) rd m (length a.regs) f j (value q j) h z.0 h' lm ld (λ dt. tt)
     (z.1 []) z.2 (λ ds w have ew. same q hw j ds z.0 have ∙ ap (q.context.call id ds) ew))
