@@ -1,29 +1,23 @@
 -- The code of arguments and of the call behind them, put together.
-use Rattle.std.proofs.Common.{arith, sym, ◌≡◌, ℕ, ◌+◌, ◌*◌, ◌<◌, ◌≤◌, List, [], ◌∷◌, ◌++◌, length, Some, subst, ap, ◌∙◌, Ok}
+use Rattle.std.proofs.Common.{arith, sym, ℕ, ◌+◌, ◌*◌, ◌<◌, List, [], ◌∷◌, ◌++◌, length, subst, Ok}
 use Rattle.vk_types.specs.declared.types.Ty.{Ty}
 use Rattle.vk_types.specs.Numbers.{wrap_number}
 use Rattle.vk_kinds.specs.declared.heads.CType.{CType}
 use Rattle.vk_kinds.specs.declared.heads.CType.TheVariants.{Int}
-use Rattle.vk_ast.specs.declared.names.NameId.{NameId}
-use Rattle.vk_ast.specs.Tree.{Tree, Trees, no_trees, more_trees, call, all_nodes, nodes_of}
-use Rattle.vk_rules_book.specs.Scopes.{Scope, meaning_of}
-use Rattle.vk_rules_book.specs.Typings.{wanted_types}
-use Rattle.vk_meaning.specs.Data.{Datum, Value}
+use Rattle.vk_ast.specs.Tree.{Tree, Trees, no_trees, more_trees, all_nodes, nodes_of}
+use Rattle.vk_rules_book.specs.Scopes.{Scope}
 use Rattle.vk_meaning.specs.Types.{next_type, next_types}
-use Rattle.vk_meaning.specs.Expressions.{value_of, with_arguments}
-use Rattle.vk_object.specs.Lane.{is_live}
-use Rattle.vk_lane.specs.Places.{Share}
-use Rattle.vk_lane.specs.Entries.{LaneCall, place_of}
-use Rattle.vk_lane_calls.specs.Callees.{TakesIf}
+use Rattle.vk_meaning.specs.Expressions.{with_arguments}
+use Rattle.vk_lane.specs.Entries.{place_of}
 use Rattle.vk_construct.specs.Computes.{Table}
-use Rattle.vk_construct.specs.Adds.{Adds, AddsNumber, AddsValue, HasWritten, IsTableOf, Written}
+use Rattle.vk_construct.specs.Adds.{AddsNumber, IsTableOf, Written}
 use Rattle.vk_construct.specs.Applies.{one}
 use Rattle.vk_construct.specs.Trees.{AddsTree}
 use Rattle.vk_construct.proofs.Adding.{adds_nil, adds_then, adds_weaken, has_written_less, no_fewer, table_there}
 use Rattle.vk_construct.proofs.Evaluating.{emits_one}
-use Rattle.vk_construct_calls.specs.Gathers.{Gathers, HaveAll}
+use Rattle.vk_construct_calls.specs.Gathers.{Gathers}
 use Rattle.vk_construct_calls.specs.Arguments.{AddsArgument, AddsArguments}
-use Rattle.vk_construct_calls.proofs.Gathering.{gathers_more, gathers_none, then_call}
+use Rattle.vk_construct_calls.proofs.Gathering.{gathers_more, gathers_none}
 
 -- a number, converted to its parameter's type
 pub argument_converted : (a b c : Written) (scope : Scope) (tb : Table) (s t : Ty) (e : Tree) (r d m f : ℕ) → IsTableOf a tb (length a.regs) → m < f → AddsTree a b scope tb e s r m f →
@@ -47,14 +41,3 @@ arguments_more a b c scope tb ts e es r rs m f it lm lr x y =
     gathers_more (place_of q) tb q.context scope ts e es before r rs m (length a.regs) (length b.regs) f j h z.0 h'
     (table_there q a tb (length a.regs) (has_written_less a b _ (8 * nodes_of e + 1) 0 q x (has_written_less b c _ (8 * all_nodes es + length rs) 0 q y hw)) it)
     lm (no_fewer a b _ (8 * nodes_of e + 1) 0 x) lr z.1 (λ dt. z.2 (before ++ dt ∷ [])) (z.2 []).idle)
-
--- what takes the call's value into a register, behind the arguments
-pub call_taken : (a b c : Written) (scope : Scope) (tb : Table) (line token : ℕ) (id : NameId) (es : Trees) (t : Ty) (rs : List ℕ) (rd m f : ℕ) (value : LaneCall → ℕ → Share → Value) → m < f → length a.regs ≤ rd →
-    AddsArguments a b scope tb (wanted_types (meaning_of scope id)) es rs m f → Adds b c (λ q j h h'. TakesIf (is_live m h.lane) (Int t) (Some rd) h h' (value q j h)) 1 0 →
-    ((q : LaneCall) → HasWritten q c → (j : ℕ) (ds : List Datum) (h : Share) → HaveAll (place_of q) j (wanted_types (meaning_of scope id)) rs ds h → value q j h ≡ q.context.call id ds h.world) →
-    AddsValue a c tb (λ k vs. value_of k scope vs (call line token id es)) (Int t) rd m (length a.regs) f (8 * all_nodes es + length rs + 1)
-call_taken a b c scope tb line token id es t rs rd m f value lm ld x y same =
-    adds_weaken a c _ _ (8 * all_nodes es + length rs + 1) (8 * all_nodes es + length rs + 1) 0 (adds_then a b c _ _ (8 * all_nodes es + length rs) 1 0 x y) (omega arith)
-    (λ q hw j h h' s s' z.
-    then_call (place_of q) tb (λ vs. with_arguments q.context scope vs (wanted_types (meaning_of scope id)) es []) (q.context.call id) (wanted_types (meaning_of scope id)) rs (Int t) rd m (length a.regs) f j (value q j) h z.0 h' lm ld (λ dt. tt)
-    (z.1 []) z.2 (λ ds w have ew. same q hw j ds z.0 have ∙ ap (q.context.call id ds) ew))

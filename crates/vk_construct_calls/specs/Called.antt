@@ -1,5 +1,5 @@
 -- A call of a slot as appended code, where each lane passes integers of its own.
-use Rattle.std.specs.Prelude.{◌≡◌, ◌==◌, ℕ, ◌<◌, false, List, [], ◌∷◌, ◌++◌, ◌≤◌, length, get_or, Some, slice_get}
+use Rattle.std.specs.Prelude.{◌≡◌, ◌==◌, ℕ, ◌<◌, false, List, length, get_or, Some, slice_get}
 use Rattle.vk_types.specs.declared.types.Ty.{Ty}
 use Rattle.vk_kinds.specs.declared.heads.CType.{CType}
 use Rattle.vk_kinds.specs.declared.heads.CType.TheVariants.{Int}
@@ -8,25 +8,12 @@ use Rattle.vk_kinds.specs.declared.kinds.Kind.TheVariants.{Vector}
 use Rattle.vk_meaning.specs.World.{Memory as Cells}
 use Rattle.vk_meaning.specs.Data.{Datum, Value}
 use Rattle.vk_meaning.specs.Types.{type_at}
-use Rattle.vk_code.specs.declared.instruction.Instr.{Instr}
-use Rattle.vk_code.specs.declared.instruction.Operation.TheVariants.{Call}
-use Rattle.vk_code.specs.Instruction.{operation_of}
 use Rattle.vk_code.specs.Listing.{CallSite}
 use Rattle.vk_object.specs.Machine.{Target, arg_reg, kind_at, target_of}
 use Rattle.vk_lane.specs.Runs.{RunsOnLanes}
 use Rattle.vk_lane.specs.Entries.{LaneCall, place_of}
 use Rattle.vk_lane_calls.specs.Callable.{HushesOver, IsLocalCall, OwnsOpenCells}
 use Rattle.vk_construct.specs.Adds.{HasType, Written}
-
--- an instruction that calls a new slot has come behind, and registers of these types
-pub record PutsCall (old new : Written) (i : Instr) (slot : CallSite) (types : List CType) : Type 0 where
-  pub calls : operation_of i ≡ Some (Call (length old.slots))
-  pub mask : i.m < new.masks
-  pub instrs : new.instrs ≡ old.instrs ++ i ∷ []
-  pub regs : new.regs ≡ old.regs ++ types
-  pub slots : new.slots ≡ old.slots ++ slot ∷ []
-  pub masks : old.masks ≤ new.masks
-  pub params : new.params ≡ old.params
 
 -- the slot's arguments are integers of the parameters' types, its result one of type t in register rd
 pub record PassesIntegers (w : Written) (slot : CallSite) (ts : List CType) (t : Ty) (rd : ℕ) : Type 0 where

@@ -1,6 +1,6 @@
 // The code of a call's arguments, and the call behind them, in one lane of any run.
 
-ghost use Rattle.std.specs.Prelude.{◌≡◌, ◌+◌, ◌*◌, ◌<◌, ◌≤◌, ◌++◌, ◌∷◌, [], ℕ, List, length, Some, Ok};
+ghost use Rattle.std.specs.Prelude.{◌≡◌, ◌+◌, ◌*◌, ◌<◌, ◌≤◌, ◌++◌, ◌∷◌, [], ℕ, List, length, Some, Ok, slice_get};
 ghost use Rattle.vk_types.specs.declared.types.Ty.{Ty};
 ghost use Rattle.vk_types.specs.Numbers.{wrap_number};
 ghost use Rattle.vk_kinds.specs.declared.heads.CType.{CType};
@@ -14,7 +14,10 @@ ghost use Rattle.vk_meaning.specs.Data.{Action, Datum, Value, and_then, as_type,
 ghost use Rattle.vk_meaning.specs.Lanes.{arguments_of};
 ghost use Rattle.vk_meaning.specs.Types.{next_type, next_types};
 ghost use Rattle.vk_code.specs.declared.instruction.Instr.{Instr};
+ghost use Rattle.vk_code.specs.declared.instruction.Operation.TheVariants.{Call};
+ghost use Rattle.vk_code.specs.Instruction.{operation_of};
 ghost use Rattle.vk_code.specs.Listing.{CallSite};
+ghost use Rattle.vk_lane.specs.Pieces.{Always, Does};
 ghost use Rattle.vk_meaning.specs.Expressions.{Context, value_of, with_arguments};
 ghost use Rattle.vk_object.specs.Lane.{is_live};
 ghost use Rattle.vk_lane.specs.Places.{IsFine, Share};
@@ -26,7 +29,7 @@ ghost use Rattle.vk_construct.specs.Applies.{one};
 ghost use Rattle.vk_construct.specs.Computes.{Computes, Idles, IsTable, Table};
 ghost use Rattle.vk_construct.specs.Trees.{AddsTree};
 ghost use Rattle.vk_construct_calls.specs.Arguments.{AddsArgument, AddsArguments};
-ghost use Rattle.vk_construct_calls.specs.Called.{PassesIntegers, PutsCall, ReachesEntry};
+ghost use Rattle.vk_construct_calls.specs.Called.{PassesIntegers, ReachesEntry};
 ghost use Rattle.vk_construct_calls.specs.Gathers.{Gathering, Gathers, HaveAll};
 
 /// Arguments are computed in order, each converted to its parameter's type into a register of its own; a stop in one ends the lane. The
@@ -44,9 +47,7 @@ pub fn calls_follow_arguments()
         → Computes (place_of q) tb (λ vs. E vs call) rt rd m d f j h h' }
 {}
 
-/// The code of a call's arguments: each is converted to its parameter's type (C17 6.5.2.2) and comes before the ones behind it. An
-/// instruction behind them that takes, in each live lane, what the function gives on the data in the arguments' registers makes the code
-/// of the call's value.
+/// The code of a call's arguments: each is converted to its parameter's type (C17 6.5.2.2) and comes before the ones behind it.
 pub fn arguments_are_converted()
     ensures converted { (a b c : Written) (scope : Scope) (tb : Table) (s t : Ty) (e : Tree) (r d m f : ℕ)
         → IsTableOf a tb (length a.regs) → m < f → AddsTree a b scope tb e s r m f
@@ -56,18 +57,12 @@ pub fn arguments_are_converted()
         → IsTableOf a tb (length a.regs) → m < f → r < length b.regs
         → AddsArgument a b scope tb (next_type ts) e r m f → AddsArguments b c scope tb (next_types ts) es rs m f
         → AddsArguments a c scope tb ts (more_trees e es) (r ∷ rs) m f }
-    ensures taken { (a b c : Written) (scope : Scope) (tb : Table) (line token : ℕ) (id : NameId) (es : Trees) (t : Ty) (rs : List ℕ) (rd m f : ℕ) (value : LaneCall → ℕ → Share → Value)
-        → m < f → length a.regs ≤ rd → AddsArguments a b scope tb (wanted_types (meaning_of scope id)) es rs m f
-        → Adds b c (λ q j h h'. TakesIf (is_live m h.lane) (Int t) (Some rd) h h' (value q j h)) 1 0
-        → ((q : LaneCall) → HasWritten q c → (j : ℕ) (ds : List Datum) (h : Share) → HaveAll (place_of q) j (wanted_types (meaning_of scope id)) rs ds h → value q j h ≡ q.context.call id ds h.world)
-        → AddsValue a c tb (λ k vs. value_of k scope vs (call line token id es)) (Int t) rd m (length a.regs) f (8 * all_nodes es + length rs + 1) }
 {}
 
-/// A call of a new slot behind the code, of an entry of several lanes that is lane-wise for a function of integers, each of the kind v
-/// (the vector function ABIs: one value a lane): each live lane takes what the function gives on the lane's own arguments.
+/// In a run where a slot of the code reaches an entry of several lanes that is lane-wise for a function of integers, each of the kind v
+/// (the vector function ABIs: one value a lane), the slot's call gives each live lane what the function gives on the lane's own arguments.
 pub fn slots_are_called()
-    ensures vectors { (a b : Written) (i : Instr) (slot : CallSite) (types ts : List CType) (t : Ty) (rd : ℕ) (scalar : LaneCall → List Datum → Cells → Value)
-        → PutsCall a b i slot types → PassesIntegers b slot ts t rd
-        → ((q : LaneCall) → HasWritten q b → ReachesEntry q (length a.slots) ts (Int t) (scalar q))
-        → Adds a b (λ q j h h'. TakesIf (is_live i.m h.lane) (Int t) (Some rd) h h' (value_behind h.world (scalar q (arguments_of ts (own_words slot h) j) h.world.memory))) 1 0 }
+    ensures { (q : LaneCall) (w : Written) (i : Instr) (k : ℕ) (slot : CallSite) (ts : List CType) (t : Ty) (rd : ℕ) (scalar : List Datum → Cells → Value)
+        → HasWritten q w → operation_of i ≡ Some (Call k) → slice_get w.slots k ≡ Some slot → PassesIntegers w slot ts t rd → ReachesEntry q k ts (Int t) scalar
+        → Does (place_of q) Always (i ∷ []) (λ j h h'. TakesIf (is_live i.m h.lane) (Int t) (Some rd) h h' (value_behind h.world (scalar (arguments_of ts (own_words slot h) j) h.world.memory))) }
 {}

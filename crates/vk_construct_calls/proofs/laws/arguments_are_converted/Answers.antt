@@ -1,4 +1,4 @@
-use Rattle.vk_construct_calls.proofs.Appending.{argument_converted, arguments_more, arguments_none, call_taken}
+use Rattle.vk_construct_calls.proofs.Appending.{argument_converted, arguments_more, arguments_none}
 use Rattle.vk_construct_calls.proofs.laws.arguments_are_converted.Goals as goal
 
 pub returns-clause-converted : goal.returns-clause-converted
@@ -9,6 +9,3 @@ returns-clause-none c = arguments_none
 
 pub returns-clause-more : goal.returns-clause-more
 returns-clause-more c = arguments_more
-
-pub returns-clause-taken : goal.returns-clause-taken
-returns-clause-taken c = call_taken
