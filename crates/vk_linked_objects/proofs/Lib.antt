@@ -1,0 +1,3 @@
+mod Declared
+mod Numbered
+mod Linked
