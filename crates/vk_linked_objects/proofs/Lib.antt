@@ -1,3 +1,4 @@
 mod Declared
 mod Numbered
 mod Linked
+mod Few
