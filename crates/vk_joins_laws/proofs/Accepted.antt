@@ -66,7 +66,7 @@ has_builtins u before f e =
       main = or_second (is_print u.texts f.name && is_wrong_print f) (is_main u.texts f.name && is_wrong_main f) h;
     }
 
-not_again : (u : Subject) (before : List ItemTree) (o : ObjectTree) → IsQuiet u (item before (object o)) → is_wrong_again before o.name (object o) ≡ false
+pub not_again : (u : Subject) (before : List ItemTree) (o : ObjectTree) → IsQuiet u (item before (object o)) → is_wrong_again before o.name (object o) ≡ false
 unfolding item_faults
 not_again u before o e =
     let own : List Fault = when (is_print u.texts o.name || is_main u.texts o.name) (fault_at o.line o.token C8) in

@@ -34,7 +34,7 @@ equal_is a b h = at (order a b) (is_eq-slice_cmp a b ∙ h)
     at Greater k = cc
 
 -- the array with this name
-abbrev look : List ℕ → List Array → Option Array
+abbrev pub look : List ℕ → List Array → Option Array
 look t xs = first_of (array_if_named t) xs
 
 look_above : (t : List ℕ) (bs : List Array) → EachAfter t bs → look t bs ≡ None
@@ -115,7 +115,7 @@ look_put t a (b ∷ bs) = at (is_up_to a.text b.text) refl (look_put t a bs)
     at true e k = refl
     at false e k = ap (option_or (array_if_named t b)) k ∙ put_at t a b (look t bs) (bytes_eq a.text t) (bytes_eq b.text t) refl refl e
 
-look_order : (t : List ℕ) (xs : List Array) → look t (in_order xs) ≡ look t xs
+pub look_order : (t : List ℕ) (xs : List Array) → look t (in_order xs) ≡ look t xs
 look_order t [] = refl
 look_order t (a ∷ rest) = look_put t a (in_order rest) ∙ ap (option_or (array_if_named t a)) (look_order t rest)
 
@@ -137,7 +137,7 @@ look_items t s (i ∷ is) = at (array_defined s i) (look_items t s is)
     at None k = k
     at (Some a) k = ap (option_or (array_if_named t a)) k
 
-look_units : (t : List ℕ) (ss : List Subject) → look t (flat_map (λ (u : Subject). filter_map (array_defined u) u.items) ss) ≡ first_of (array_in t) ss
+pub look_units : (t : List ℕ) (ss : List Subject) → look t (flat_map (λ (u : Subject). filter_map (array_defined u) u.items) ss) ≡ first_of (array_in t) ss
 look_units t [] = refl
 look_units t (s ∷ ss) = look_append t (filter_map (array_defined s) s.items) (flat_map (λ (u : Subject). filter_map (array_defined u) u.items) ss) ∙ (λ i. option_or (look_items t s s.items i) (look_units t ss i))
 

@@ -1,0 +1,2 @@
+mod Visited
+mod Lined

@@ -1,0 +1,4 @@
+//! What functions with directives call.
+#![tactic(auto)]
+
+pub mod laws;

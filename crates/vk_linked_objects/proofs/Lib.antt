@@ -1,0 +1,4 @@
+mod Declared
+mod Numbered
+mod Linked
+mod Few
