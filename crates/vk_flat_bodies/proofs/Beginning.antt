@@ -1,5 +1,5 @@
 -- The masks of a body, and the body behind them.
-use Rattle.std.proofs.Common.{arith, sym, ◌≡◌, ℕ, ◌+◌, ◌*◌, ◌≤◌, ◌<◌, max, List, [], ◌∷◌, ◌++◌, length, refl, subst, ap, ◌∙◌, Option, Some, None, Ok}
+use Rattle.std.proofs.Common.{arith, sym, ◌≡◌, ℕ, ◌+◌, ◌*◌, ◌≤◌, ◌<◌, List, [], ◌∷◌, ◌++◌, length, refl, subst, ap, ◌∙◌, Some, Ok}
 use Rattle.vk_kinds.specs.declared.heads.CType.{CType}
 use Rattle.vk_kinds.specs.declared.heads.CType.TheVariants.{Int}
 use Rattle.vk_ast.specs.Statements.{StmtTrees, all_stmt_nodes}
@@ -23,7 +23,7 @@ use Rattle.vk_flat.specs.Locals.{ArePlaces}
 use Rattle.vk_flat.proofs.Grown.{fresh_then, put_mask, put_piece}
 use Rattle.vk_flat.proofs.Steps.{new_place, old_place}
 use Rattle.vk_flat_statements.specs.Frames.{HasGrown, IsReady}
-use Rattle.vk_flat_statements.specs.Statements.{EmitsAll, StandFor, inner_point, returning}
+use Rattle.vk_flat_statements.specs.Statements.{StandFor, inner_point, returning}
 use Rattle.vk_flat_statements.proofs.Standing.{stands_behind}
 use Rattle.vk_flat_nested.specs.Nested.{CompilesAll}
 use Rattle.vk_flat_bodies.specs.Bodies.{Begins, EmitsBody}

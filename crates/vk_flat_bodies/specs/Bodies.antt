@@ -1,5 +1,5 @@
 -- The code of a function's body.
-use Rattle.std.specs.Prelude.{◌≡◌, ℕ, ◌+◌, ◌*◌, ◌≤◌, List, length, Some}
+use Rattle.std.specs.Prelude.{◌≡◌, ◌+◌, ◌*◌, ◌≤◌, List, length, Some}
 use Rattle.vk_kinds.specs.declared.heads.CType.TheVariants.{Int}
 use Rattle.vk_ast.specs.Statements.{StmtTrees, all_stmt_nodes}
 use Rattle.vk_rules_book.specs.Scopes.{Scope}

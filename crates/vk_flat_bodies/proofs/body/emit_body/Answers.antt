@@ -1,4 +1,3 @@
-use Rattle.std.proofs.Common.{length}
 use Rattle.vk_ast.specs.Statements.{all_stmt_nodes, list_stmts}
 use Rattle.vk_flat.specs.Emitters.{written_of}
 use Rattle.vk_flat.proofs.Steps.{new_place}
