@@ -1,5 +1,5 @@
 -- The code of statements that hold statements, from that of their parts.
-use Rattle.std.proofs.Common.{arith, rules, sym, ◌≡◌, ℕ, ◌+◌, ◌*◌, ◌-◌, ◌≤◌, ◌<◌, false, ◌&&◌, List, [], ◌∷◌, ◌++◌, length, take, drop, get_or, refl, subst, ap, ap₂, ◌∙◌, append_assoc, append-nil, Option, None, Some, IsTrue}
+use Rattle.std.proofs.Common.{arith, rules, sym, ◌≡◌, ℕ, ◌+◌, ◌*◌, ◌-◌, ◌≤◌, ◌<◌, false, List, [], ◌∷◌, ◌++◌, length, take, drop, get_or, refl, ap, ap₂, ◌∙◌, append_assoc, append-nil, Option, IsTrue}
 use Rattle.vk_kinds.specs.declared.heads.CType.TheVariants.{Int}
 use Rattle.std.specs.Global.{Vec}
 use Rattle.vk_ast.proofs.Rows.{block_seen}
@@ -17,7 +17,7 @@ use Rattle.vk_construct.specs.Computes.{Table}
 use Rattle.vk_construct.proofs.Adding.{type_kept}
 use Rattle.vk_construct_statements.specs.Follows.{AreApart, Guards, first_branch, second_branch}
 use Rattle.vk_construct_statements.specs.Statements.{AddsStatement, Unites}
-use Rattle.vk_construct_statements.proofs.Branches.{apart_first, apart_second}
+use Rattle.vk_construct_statements.proofs.Branches.{apart_second}
 use Rattle.vk_construct_statements.proofs.Flow.{flow_block, flow_branch, flow_nothing, flow_then}
 use Rattle.vk_construct_statements.proofs.Straight.{front_same, front_then}
 use Rattle.vk_flat.specs.declared.emitter.Emitter.{Emitter}
@@ -26,7 +26,7 @@ use Rattle.vk_flat.specs.declared.emitter.Under.{Under}
 use Rattle.vk_flat.specs.declared.locals.Local.{Local}
 use Rattle.vk_flat.specs.Emitters.{HasBase, IsPlace, written_of}
 use Rattle.vk_flat.specs.Locals.{ArePlaces, is_numeric}
-use Rattle.vk_flat_statements.specs.Frames.{AreBehind, HasGrown, return_place}
+use Rattle.vk_flat_statements.specs.Frames.{AreBehind, return_place}
 use Rattle.vk_flat_statements.specs.Statements.{Compiles, Divides, StandFor, inner_point, returning}
 use Rattle.vk_flat_statements.proofs.Leaves.{emitted}
 use Rattle.vk_flat_statements.proofs.Standing.{larger, stands_behind}

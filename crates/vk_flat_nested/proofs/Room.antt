@@ -1,8 +1,8 @@
 -- Room for the code of parts.
-use Rattle.std.proofs.Common.{arith, sym, ◌≡◌, ℕ, ◌+◌, ◌*◌, ◌≤◌, ◌<◌, List, length, refl, ◌∙◌, Option}
+use Rattle.std.proofs.Common.{arith, ◌≡◌, ℕ, ◌+◌, ◌*◌, ◌≤◌, ◌<◌, List, length, refl, ◌∙◌, Option}
 use Rattle.vk_ast.specs.Statements.{StmtTree, stmt_nodes, empty, block, local, assign, value, if_only, if_else, while_loop, do_loop, for_loop, break_loop, continue_loop, return_value, simd, lost}
 use Rattle.vk_ast.specs.Tree.{Tree, nodes_of}
-use Rattle.vk_construct_statements.specs.Follows.{AreApart, Guards, first_branch, second_branch}
+use Rattle.vk_construct_statements.specs.Follows.{Guards, first_branch, second_branch}
 use Rattle.vk_construct_statements.proofs.Branches.{apart_first, apart_second}
 use Rattle.vk_construct.proofs.Adding.{type_kept}
 use Rattle.vk_kinds.specs.declared.heads.CType.TheVariants.{Int}
@@ -10,7 +10,6 @@ use Rattle.vk_flat.specs.declared.emitter.Emitter.{Emitter}
 use Rattle.vk_flat.specs.declared.emitter.Place.{Place}
 use Rattle.vk_flat.specs.declared.locals.Local.{Local}
 use Rattle.vk_flat.specs.Emitters.{HasBase, IsPlace, written_of}
-use Rattle.vk_flat.specs.Locals.{ArePlaces}
 use Rattle.vk_flat_statements.specs.Frames.{HasGrown, HasPlace, IsReady}
 use Rattle.vk_flat_statements.specs.Statements.{Compiles, Divides}
 use Rattle.vk_flat_nested.specs.Nested.{CompilesBranch}

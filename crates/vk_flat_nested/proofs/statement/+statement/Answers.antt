@@ -1,10 +1,9 @@
 -- The code of each kind of statement.
-use Rattle.std.proofs.Common.{rules, sym, subst, ap, ◌&&◌, ◌+◌, ◌∙◌, ◌-◌, IsTrue, is_some, ◌≡◌, List, OnOk, length, take, drop, arith}
+use Rattle.std.proofs.Common.{rules, sym, subst, ap, ◌&&◌, ◌+◌, ◌-◌, IsTrue, is_some, ◌≡◌, List, OnOk, length, take, drop, arith}
 use Rattle.vk_ast.specs.Statements.{all_stmt_nodes, block, list_stmts, more_stmts, stmt_nodes, stmt_of}
 use Rattle.vk_ast.specs.Tree.{expr_of, nodes_of}
 use Rattle.vk_construct_statements.specs.Follows.{Guards, first_branch, second_branch}
 use Rattle.vk_flat.specs.declared.locals.Local.{Local}
-use Rattle.vk_flat.specs.Emitters.{written_of}
 use Rattle.vk_flat.specs.Locals.{is_numeric}
 use Rattle.vk_flat.proofs.Cases.{first_of, middle_of, second_of}
 use Rattle.vk_flat.proofs.Grown.{on_ok}
